@@ -1,5 +1,6 @@
 ghost use Rattle.std.specs.Prelude.{◌≡◌, IfOk};
 
+use crate::lists::Values;
 use sqlite_items::{Boxed, Items};
 use std::alloc::{AllocError, Global};
 
@@ -47,8 +48,9 @@ impl Value {
     }
 }
 
+/// Equal values. The only error is want of memory.
 #[cycle(copying)]
-fn values_copied(alloc: Global, values: &[Value]) -> Result<Items<Value>, AllocError>
+pub fn values_copied(alloc: Global, values: &[Value]) -> Result<Values, AllocError>
     ensures { IfOk result (λ copy. copy ≡ values.now) }
 {
     let mut copy = Items::new(alloc);

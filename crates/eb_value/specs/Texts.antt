@@ -1,0 +1,30 @@
+-- The text of a value.
+use Rattle.std.specs.Prelude.{ℕ, Bool, true, false, List, [], ◌++◌, codes, unwrap_or, slice_get}
+use Rattle.std.specs.List.{join_with_byte}
+use Rattle.std.specs.Fmt.{decimal, signed_decimal}
+use Rattle.eb_value.specs.declared.value.Value.{Value}
+use Rattle.eb_value.specs.declared.value.Form.{Form-F}
+use Rattle.eb_value.specs.declared.value.Form.TheOpen as val
+use Rattle.eb_value.specs.Values.{by_parts}
+
+abbrev pub truth_text : Bool → List ℕ
+truth_text true = codes "TRUE"
+truth_text false = codes "FALSE"
+
+-- the name of a carrier set, empty where it has none
+abbrev pub name_at : List (List ℕ) → ℕ → List ℕ
+name_at names place = unwrap_or (slice_get names place) []
+
+abbrev pub atom_text : List (List ℕ) → ℕ → ℕ → List ℕ
+atom_text names place number = name_at names place ++ (codes "#" ++ decimal number)
+
+abbrev pub text_step : List (List ℕ) → Form-F (List ℕ) (List ℕ) → List ℕ
+text_step names (val.Int n) = signed_decimal n
+text_step names (val.Bool b) = truth_text b
+text_step names (val.Atom place k) = atom_text names place k
+text_step names (val.Pair a b) = codes "(" ++ (a ++ (codes "|->" ++ (b ++ codes ")")))
+text_step names (val.Set members) = codes "{" ++ (join_with_byte 44 members ++ codes "}")
+
+-- 5, TRUE, S#1, (1|->TRUE), {1,2}
+abbrev pub value_text : List (List ℕ) → Value → List ℕ
+value_text names = by_parts (List ℕ) (text_step names)
