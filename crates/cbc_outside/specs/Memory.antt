@@ -49,22 +49,23 @@ abbrev pub after_finding : SourceState → List ℕ → Option (List ℕ) → So
 after_finding s name None = after_fault s (Some name)
 after_finding s name (Some bytes) = record s { calls = count_up s.calls; name = Some name; rest = bytes }
 
+-- after `open` of a name: that name's bytes are there, if the call finds them
 abbrev pub after_open : SourceState → List ℕ → SourceState
 after_open s name = after_finding s name (found_bytes s name)
 
 -- `read` gives nothing without an open file, fails at a listed call, and else gives what is left as far as it fits
 abbrev pub answer_of_read : SourceState → ℕ → Result ℕ Failed
 answer_of_read s size =
-  if is_none s.name then Ok 0
-  else if is_listed s.failing s.calls then Err failed
-  else Ok (min size (length s.rest))
+    if is_none s.name then Ok 0
+    else if is_listed s.failing s.calls then Err failed
+    else Ok (min size (length s.rest))
 
 -- `read` without an open file isn't counted; one that gives bytes takes them from what is left
 abbrev pub after_read : SourceState → ℕ → SourceState
 after_read s size =
-  if is_none s.name then s
-  else if is_listed s.failing s.calls then after_fault s s.name
-  else record s { calls = count_up s.calls; rest = drop size s.rest }
+    if is_none s.name then s
+    else if is_listed s.failing s.calls then after_fault s s.name
+    else record s { calls = count_up s.calls; rest = drop size s.rest }
 
 -- how many bytes a sink can still take
 abbrev pub room_left : SinkState → ℕ
@@ -77,16 +78,16 @@ is_refused s = is_listed s.failing s.calls || (room_left s == 0)
 -- `write` takes nothing of an empty piece, fails where the sink refuses, and else takes of the piece what fits
 abbrev pub answer_of_write : SinkState → List ℕ → Result ℕ Failed
 answer_of_write s piece =
-  if length piece == 0 then Ok 0
-  else if is_refused s then Err failed
-  else Ok (min (length piece) (room_left s))
+    if length piece == 0 then Ok 0
+    else if is_refused s then Err failed
+    else Ok (min (length piece) (room_left s))
 
 -- `write` of an empty piece isn't counted; one that the sink refuses is a fault and takes nothing
 abbrev pub after_write : SinkState → List ℕ → SinkState
 after_write s piece =
-  if length piece == 0 then s
-  else if is_refused s then record s { calls = count_up s.calls; faults = count_up s.faults }
-  else record s { calls = count_up s.calls; taken = s.taken ++ take (room_left s) piece }
+    if length piece == 0 then s
+    else if is_refused s then record s { calls = count_up s.calls; faults = count_up s.faults }
+    else record s { calls = count_up s.calls; taken = s.taken ++ take (room_left s) piece }
 
 -- the bytes of the file at a place
 abbrev pub bytes_at : Files → ℕ → List ℕ

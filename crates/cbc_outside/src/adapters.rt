@@ -1,4 +1,5 @@
-ghost use Rattle.std.specs.Prelude.{◌≡◌, None};
+ghost use Rattle.std.specs.Prelude.{◌≡◌, ◌≤◌, None, Some};
+ghost use Rattle.cbc_outside.specs.Outside.{count_up};
 
 use crate::outside::{Failed, Sink, Source};
 use eb_value::Name;
@@ -24,10 +25,11 @@ impl<'a, R: Files> Model for FileSource<'a, R> {
     ghost Value = { FilesState };
 
     ghost view = { λ s. record {
-        name = option_map (λ o. o.0) s.opened;
-        rest = option_and_then (λ o. R.File.remaining o.1) s.opened;
-        faults = s.faults;
-        fault_name = s.fault_name } };
+      name = option_map (λ o. o.0) s.opened;
+      rest = option_and_then (λ o. R.File.remaining o.1) s.opened;
+      faults = s.faults;
+      fault_name = s.fault_name;
+    } };
 }
 
 impl<'a, R: Files> FileSource<'a, R> {
@@ -41,6 +43,22 @@ impl<'a, R: Files> FileSource<'a, R> {
             faults: 0,
             fault_name: None,
         }
+    }
+
+    /// Counts a fault at this file, and closes what was open.
+    fn fail(&mut self, name: Name) -> Failed
+        ensures after { self.new ≡ record {
+          name = None;
+          rest = None;
+          faults = count_up self.old.faults;
+          fault_name = Some name;
+        } }
+        ensures later { self.old.faults ≤ self.new.faults }
+    {
+        self.opened = None;
+        self.faults = self.faults.saturating_add(1);
+        self.fault_name = Some(name);
+        Failed
     }
 }
 
@@ -61,12 +79,7 @@ impl<R: Files> Source for FileSource<'_, R> {
                 self.opened = Some((name, file));
                 Ok(())
             }
-            Err(_) => {
-                self.opened = None;
-                self.faults = self.faults.saturating_add(1);
-                self.fault_name = Some(name);
-                Err(Failed)
-            }
+            Err(_) => Err(self.fail(name)),
         }
     }
 
@@ -79,11 +92,7 @@ impl<R: Files> Source for FileSource<'_, R> {
                 self.opened = Some((name, file));
                 Ok(count)
             }
-            Err(_) => {
-                self.faults = self.faults.saturating_add(1);
-                self.fault_name = Some(name);
-                Err(Failed)
-            }
+            Err(_) => Err(self.fail(name)),
         }
     }
 }

@@ -1,4 +1,5 @@
-//! What the program reads and writes, and its faults.
+//! What the program reads and writes, and the faults of both: two traits, a source and a sink in memory whose
+//! calls fail as they are told to, and the adapters over the system.
 #![tactic(auto)]
 
 mod adapters;
@@ -12,3 +13,6 @@ pub use mem_sink::MemSink;
 pub use mem_source::MemSource;
 pub use outside::{Failed, Sink, Source};
 pub use streams::{ReadStop, read_all, write_all};
+
+#[cfg(test)]
+mod tests;

@@ -25,7 +25,13 @@ impl Model for MemSink {
 
     ghost Value = { SinkState };
 
-    ghost view = { λ s. record { taken = s.taken.items; room = s.room; failing = s.failing; calls = s.calls; faults = s.faults } };
+    ghost view = { λ s. record {
+      taken = s.taken.items;
+      room = s.room;
+      failing = s.failing;
+      calls = s.calls;
+      faults = s.faults;
+    } };
 
     ghost invariant = { λ s. (length s.taken.items ≤ s.room) × (s.room ≤ vec_capacity s.taken) };
 }
@@ -34,7 +40,13 @@ impl MemSink {
     /// A sink that takes `room` bytes in all, and fails at the writes with these numbers. The only error is
     /// want of memory for the room.
     pub fn new(alloc: Global, room: usize, failing: Calls) -> Result<MemSink, AllocError>
-        ensures { IfOk result (λ sink. sink ≡ record { taken = []; room = room; failing = failing; calls = 0; faults = 0 }) }
+        ensures { IfOk result (λ sink. sink ≡ record {
+          taken = [];
+          room = room;
+          failing = failing;
+          calls = 0;
+          faults = 0;
+        }) }
     {
         Ok(MemSink {
             taken: Vec::with_capacity(alloc, room)?,

@@ -1,7 +1,7 @@
 ghost use Rattle.std.specs.Prelude.{◌≡◌, ◌+◌, ◌-◌, ◌^◌, ◌<◌, ◌≤◌, [], None, Some, Ok, IfOk, IfNone, IfSome, OnOk, OnErr, min, length, take, drop};
 ghost use Rattle.std.specs.Io.{ReadsAtMost};
 ghost use Rattle.std.specs.Io.KnownBytes.{Consumes, IsAtEnd};
-ghost use Rattle.cbc_outside.specs.Outside.{lookup, Opens, HasCause, Blames};
+ghost use Rattle.cbc_outside.specs.Outside.{count_up, lookup, Opens, HasCause, Blames};
 ghost use Rattle.cbc_outside.specs.Memory.{bytes_at, answer_of_open, after_open, answer_of_read, after_read};
 
 use crate::outside::{Failed, Source};
@@ -43,7 +43,15 @@ impl Model for MemSource {
 impl MemSource {
     /// A source of these files, which fails at the calls with these numbers. No file is open.
     pub fn new(files: NamedFiles, failing: Calls) -> MemSource
-        ensures { result ≡ record { files = files; failing = failing; calls = 0; name = None; rest = []; faults = 0; fault_name = None } }
+        ensures { result ≡ record {
+          files = files;
+          failing = failing;
+          calls = 0;
+          name = None;
+          rest = [];
+          faults = 0;
+          fault_name = None;
+        } }
     {
         MemSource {
             files,
@@ -53,6 +61,21 @@ impl MemSource {
             faults: 0,
             fault_name: None,
         }
+    }
+
+    /// Counts a fault at this file, and closes what was open.
+    fn fail(&mut self, name: Name) -> Failed
+        ensures { self.new ≡ record self.old {
+          name = None;
+          rest = [];
+          faults = count_up self.old.faults;
+          fault_name = Some name;
+        } }
+    {
+        self.opened = None;
+        self.faults = self.faults.saturating_add(1);
+        self.fault_name = Some(name);
+        Failed
     }
 }
 
@@ -101,12 +124,7 @@ impl Source for MemSource {
                 self.opened = Some(Opened { name, place, at: 0 });
                 Ok(())
             }
-            _ => {
-                self.opened = None;
-                self.faults = self.faults.saturating_add(1);
-                self.fault_name = Some(name);
-                Err(Failed)
-            }
+            _ => Err(self.fail(name)),
         }
     }
 
@@ -130,14 +148,7 @@ impl Source for MemSource {
         };
         self.calls = self.calls.saturating_add(1);
         if self.failing.as_slice().contains(&self.calls) {
-            let Opened {
-                name,
-                place: _,
-                at: _,
-            } = opened;
-            self.faults = self.faults.saturating_add(1);
-            self.fault_name = Some(name);
-            return Err(Failed);
+            return Err(self.fail(opened.name));
         }
         let Opened { name, place, at } = opened;
         let count = copy_part(self.files.as_slice(), place, at, into);
