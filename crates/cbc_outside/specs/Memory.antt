@@ -1,5 +1,5 @@
 -- The source and the sink in memory: what each call answers, and what it leaves.
-use Rattle.std.specs.Prelude.{ℕ, ◌+◌, ◌-◌, ◌==◌, ◌||◌, List, [], ◌∷◌, ◌++◌, Option, Some, None, Result, Ok, Err, Bool, true, false, is_some, is_none, length, take, drop, min, if◌then◌else◌, slice_get, unwrap_or, option_map}
+use Rattle.std.specs.Prelude.{ℕ, ◌-◌, ◌==◌, ◌||◌, List, [], ◌++◌, Option, Some, None, Result, Ok, Err, Bool, is_some, is_none, length, take, drop, min, if◌then◌else◌, slice_get, unwrap_or, option_map}
 use Rattle.std.specs.List.{list_any}
 use Rattle.cbc_outside.specs.declared.outside.Failed.{Failed}
 use Rattle.cbc_outside.specs.Outside.{Files, lookup, count_up}
@@ -8,19 +8,19 @@ use Rattle.cbc_outside.specs.Outside.{Files, lookup, count_up}
 abbrev pub failed : Failed
 failed = record {}
 
--- a source in memory: its files, the numbers of the calls that fail, how many calls were counted, the open
--- file's name, what is left of it, how many calls failed, and the file of the last that did
+-- a source in memory: its files, the numbers of the calls that fail, how many calls were counted,
+-- the open file's name, what is left of it, how many calls failed, and the file of the last that did
 pub record SourceState : Type 0 where
   pub files : Files
   pub failing : List ℕ
   pub calls : ℕ
-  pub name : Option (List ℕ)
+  pub open_name : Option (List ℕ)
   pub rest : List ℕ
   pub faults : ℕ
   pub fault_name : Option (List ℕ)
 
--- a sink in memory: the bytes taken, how many it can take in all, the numbers of the calls that fail, how
--- many calls were counted, and how many failed
+-- a sink in memory: the bytes taken, how many it can take in all, the numbers of the calls that fail,
+-- how many calls were counted, and how many failed
 pub record SinkState : Type 0 where
   pub taken : List ℕ
   pub room : ℕ
@@ -42,29 +42,36 @@ answer_of_open s name = if is_some (found_bytes s name) then Ok tt else Err fail
 
 -- after a call that failed at a file there is one fault more, at this file, and no file is open
 abbrev pub after_fault : SourceState → Option (List ℕ) → SourceState
-after_fault s name = record s { calls = count_up s.calls; name = None; rest = []; faults = count_up s.faults; fault_name = name }
+after_fault s name = record s {
+  calls = count_up s.calls;
+  open_name = None;
+  rest = [];
+  faults = count_up s.faults;
+  fault_name = name;
+}
 
 -- after `open` that found bytes, they are all left to read
 abbrev pub after_finding : SourceState → List ℕ → Option (List ℕ) → SourceState
 after_finding s name None = after_fault s (Some name)
-after_finding s name (Some bytes) = record s { calls = count_up s.calls; name = Some name; rest = bytes }
+after_finding s name (Some bytes) = record s { calls = count_up s.calls; open_name = Some name; rest = bytes }
 
--- after `open` of a name: that name's bytes are there, if the call finds them
+-- after `open` of a name, by the bytes that the call finds
 abbrev pub after_open : SourceState → List ℕ → SourceState
 after_open s name = after_finding s name (found_bytes s name)
 
--- `read` gives nothing without an open file, fails at a listed call, and else gives what is left as far as it fits
+-- `read` gives nothing without an open file, fails at a listed call, and else gives what is left, as
+-- far as it fits
 abbrev pub answer_of_read : SourceState → ℕ → Result ℕ Failed
 answer_of_read s size =
-    if is_none s.name then Ok 0
+    if is_none s.open_name then Ok 0
     else if is_listed s.failing s.calls then Err failed
     else Ok (min size (length s.rest))
 
 -- `read` without an open file isn't counted; one that gives bytes takes them from what is left
 abbrev pub after_read : SourceState → ℕ → SourceState
 after_read s size =
-    if is_none s.name then s
-    else if is_listed s.failing s.calls then after_fault s s.name
+    if is_none s.open_name then s
+    else if is_listed s.failing s.calls then after_fault s s.open_name
     else record s { calls = count_up s.calls; rest = drop size s.rest }
 
 -- how many bytes a sink can still take
@@ -75,7 +82,7 @@ room_left s = s.room - length s.taken
 abbrev pub is_refused : SinkState → Bool
 is_refused s = is_listed s.failing s.calls || (room_left s == 0)
 
--- `write` takes nothing of an empty piece, fails where the sink refuses, and else takes of the piece what fits
+-- `write` takes nothing of an empty piece, fails where the sink refuses, and else takes what fits
 abbrev pub answer_of_write : SinkState → List ℕ → Result ℕ Failed
 answer_of_write s piece =
     if length piece == 0 then Ok 0

@@ -25,8 +25,8 @@ impl<'a, R: Files> Model for FileSource<'a, R> {
     ghost Value = { FilesState };
 
     ghost view = { λ s. record {
-      name = option_map (λ o. o.0) s.opened;
-      rest = option_and_then (λ o. R.File.remaining o.1) s.opened;
+      open_name = option_map (λ file. file.0) s.opened;
+      rest = option_and_then (λ file. R.File.remaining file.1) s.opened;
       faults = s.faults;
       fault_name = s.fault_name;
     } };
@@ -35,7 +35,7 @@ impl<'a, R: Files> Model for FileSource<'a, R> {
 impl<'a, R: Files> FileSource<'a, R> {
     /// The files that this runtime reaches. No file is open, and no call has failed.
     pub fn new(rt: &'a R) -> FileSource<'a, R>
-        ensures { result ≡ record { name = None; rest = None; faults = 0; fault_name = None } }
+        ensures { result ≡ record { open_name = None; rest = None; faults = 0; fault_name = None } }
     {
         FileSource {
             rt,
@@ -48,7 +48,7 @@ impl<'a, R: Files> FileSource<'a, R> {
     /// Counts a fault at this file, and closes what was open.
     fn fail(&mut self, name: Name) -> Failed
         ensures after { self.new ≡ record {
-          name = None;
+          open_name = None;
           rest = None;
           faults = count_up self.old.faults;
           fault_name = Some name;
@@ -65,7 +65,7 @@ impl<'a, R: Files> FileSource<'a, R> {
 impl<R: Files> Source for FileSource<'_, R> {
     ghost files = { λ s. None };
 
-    ghost open_name = { λ s. s.name };
+    ghost open_name = { λ s. s.open_name };
 
     ghost rest = { λ s. s.rest };
 

@@ -47,7 +47,7 @@ impl MemSource {
           files = files;
           failing = failing;
           calls = 0;
-          name = None;
+          open_name = None;
           rest = [];
           faults = 0;
           fault_name = None;
@@ -66,7 +66,7 @@ impl MemSource {
     /// Counts a fault at this file, and closes what was open.
     fn fail(&mut self, name: Name) -> Failed
         ensures { self.new ≡ record self.old {
-          name = None;
+          open_name = None;
           rest = [];
           faults = count_up self.old.faults;
           fault_name = Some name;
@@ -96,7 +96,7 @@ fn place_of(files: &[(Name, Bytes)], name: &str) -> Option<usize>
 impl Source for MemSource {
     ghost files = { λ s. Some s.files };
 
-    ghost open_name = { λ s. s.name };
+    ghost open_name = { λ s. s.open_name };
 
     ghost rest = { λ s. Some s.rest };
 
@@ -107,9 +107,9 @@ impl Source for MemSource {
     /// Fails exactly at a listed call and at a name that isn't there.
     fn open(&mut self, name: Name) -> Result<(), Failed>
         ensures same { self.new.files ≡ self.old.files }
-        ensures named { OnOk result (self.new.name ≡ Some name) }
+        ensures named { OnOk result (self.new.open_name ≡ Some name) }
         ensures opened { OnOk result (Opens (Some self.old.files) name (Some self.new.rest)) }
-        ensures closes { OnErr result (self.new.name ≡ None) }
+        ensures closes { OnErr result (self.new.open_name ≡ None) }
         ensures cause { HasCause self.old.faults self.new.faults result }
         ensures blames { Blames (Some name) self.old.fault_name self.new.fault_name result }
 
@@ -134,11 +134,11 @@ impl Source for MemSource {
         ensures bound { ReadsAtMost result into.new }
         ensures bytes { IfOk result (λ n. Consumes (Some self.old.rest) (Some self.new.rest) (take n into.new)) }
         ensures end { IfOk result (λ n. n ≡ 0 → 0 < length into.new → IsAtEnd (Some self.new.rest)) }
-        ensures stays { OnOk result (self.new.name ≡ self.old.name) }
-        ensures none_open { IfNone self.old.name (result ≡ Ok 0) }
-        ensures closes { OnErr result (self.new.name ≡ None) }
+        ensures stays { OnOk result (self.new.open_name ≡ self.old.open_name) }
+        ensures none_open { IfNone self.old.open_name (result ≡ Ok 0) }
+        ensures closes { OnErr result (self.new.open_name ≡ None) }
         ensures cause { HasCause self.old.faults self.new.faults result }
-        ensures blames { Blames self.old.name self.old.fault_name self.new.fault_name result }
+        ensures blames { Blames self.old.open_name self.old.fault_name self.new.fault_name result }
 
         ensures exact { result ≡ answer_of_read self.old (length into.old) }
         ensures after { self.new ≡ after_read self.old (length into.old) }

@@ -39,6 +39,7 @@ const PIECE: usize = 4096;
 /// `Failed`: the source failed to open or to read this file; the count of faults rose, and the fault name is
 /// this name. `TooLong`: no call failed, and the file has more than `limit` bytes. `Memory`: no call failed, and
 /// memory ran out. Where no call failed and memory was there, the file's bytes thus determine the answer.
+/// The source can be used again after each answer.
 pub fn read_all<S: Source>(
     alloc: Global,
     src: &mut S,

@@ -100,9 +100,11 @@ fn a_file_of_the_system_is_read(rt: HostRuntime) -> Result<(), Fail> {
     let too_long = read_back(rt.alloc(), &mut src, name, 2);
     fs::remove_file(&rt, name)?;
     let gone = read_back(rt.alloc(), &mut src, name, 3);
+    let folder = read_back(rt.alloc(), &mut src, ".", 3);
     assert_eq!(rt; seen(&found), Ok(b"abc".as_slice()));
     assert_eq!(rt; seen(&too_long), Err(ReadStop::TooLong));
     assert_eq!(rt; seen(&gone), Err(ReadStop::Failed));
+    assert_eq!(rt; seen(&folder), Err(ReadStop::Failed));
     Ok(())
 }
 
