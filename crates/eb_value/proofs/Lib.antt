@@ -5,3 +5,9 @@ pub mod CountLaws
 pub mod TextLaws
 pub mod Members
 pub mod IntegerLaws
+pub mod Ascending
+pub mod SetLaws
+pub mod ListingLaws
+pub mod ValsLaws
+pub mod TypingLaws
+pub mod Completeness

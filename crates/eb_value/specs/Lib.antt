@@ -4,3 +4,4 @@ pub mod Typing
 pub mod Scopes
 pub mod Counts
 pub mod Texts
+pub mod Sets
