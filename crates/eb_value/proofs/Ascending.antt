@@ -28,7 +28,7 @@ less_is Less h = refl
 less_is Equal h = cc
 less_is Greater h = cc
 
-first_true : (s t : Bool) → (s && t) ≡ true → s ≡ true
+pub first_true : (s t : Bool) → (s && t) ≡ true → s ≡ true
 first_true true t h = refl
 first_true false t h = cc
 
@@ -91,11 +91,11 @@ rises_map R S f up (x ∷ xs) h =
 
 -- ---- a filter
 
-filter_split : {A : Type 0} (x : A) (kept : List A) (b : Bool) (v : A) → Contains (cond b (x ∷ kept) kept) v → ((x ≡ v) × (b ≡ true)) ⊎ Contains kept v
+pub filter_split : {A : Type 0} (x : A) (kept : List A) (b : Bool) (v : A) → Contains (cond b (x ∷ kept) kept) v → ((x ≡ v) × (b ≡ true)) ⊎ Contains kept v
 filter_split x kept true v h = ⊎_elim (λ e. inl (e, refl)) (λ m. inr m) (contains_cases x kept v h)
 filter_split x kept false v h = inr h
 
-filter_join : {A : Type 0} (x : A) (kept : List A) (b : Bool) (v : A) → ((x ≡ v) × (b ≡ true)) ⊎ Contains kept v → Contains (cond b (x ∷ kept) kept) v
+pub filter_join : {A : Type 0} (x : A) (kept : List A) (b : Bool) (v : A) → ((x ≡ v) × (b ≡ true)) ⊎ Contains kept v → Contains (cond b (x ∷ kept) kept) v
 filter_join x kept true v h = ⊎_elim (λ e. contains_here x kept v e.0) (λ m. contains_there x kept v m) h
 filter_join x kept false v h = ⊎_elim (λ e. absurd (let k : false ≡ true = e.1 in cc)) (λ m. m) h
 
@@ -106,7 +106,7 @@ contains_filter p (x ∷ xs) v = (
   λ h. filter_join x (filter p xs) (p x) v (⊎_elim (λ e. inl (e, ap p e ∙ h.1)) (λ m. inr ((contains_filter p xs v).1 (m, h.1))) (contains_cases x xs v h.0)),
 )
 
-filter_rises : {A : Type 0} (R : A → A → Type 0) (x : A) (kept : List A) (b : Bool) → ((y : A) → Contains kept y → R x y) → Rises R kept → Rises R (cond b (x ∷ kept) kept)
+pub filter_rises : {A : Type 0} (R : A → A → Type 0) (x : A) (kept : List A) (b : Bool) → ((y : A) → Contains kept y → R x y) → Rises R kept → Rises R (cond b (x ∷ kept) kept)
 filter_rises R x kept true h k = (h, k)
 filter_rises R x kept false h k = k
 

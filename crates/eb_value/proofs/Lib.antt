@@ -11,3 +11,8 @@ pub mod ListingLaws
 pub mod ValsLaws
 pub mod TypingLaws
 pub mod Completeness
+pub mod MergeLaws
+pub mod PairLaws
+pub mod RelationLaws
+pub mod ProductLaws
+pub mod FunctionLaws

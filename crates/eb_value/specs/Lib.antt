@@ -5,3 +5,6 @@ pub mod Scopes
 pub mod Counts
 pub mod Texts
 pub mod Sets
+pub mod Merges
+pub mod Relations
+pub mod Joins
