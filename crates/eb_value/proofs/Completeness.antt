@@ -87,7 +87,7 @@ up_atoms place k (suc n) j h l = ⊎_elim
 atom_passes : (place j n : ℕ) → 1 ≤ j → j < 1 + n → ((place == place) && nat_le 1 j && nat_le j n) ≡ true
 atom_passes place j n h l = grind (arith, nat_tests)
 
-passed_atom : (s place k n : ℕ) → ((s == place) && nat_le 1 k && nat_le k n) ≡ true → (s ≡ place) × (1 ≤ k) × (k < 1 + n)
+pub passed_atom : (s place k n : ℕ) → ((s == place) && nat_le 1 k && nat_le k n) ≡ true → (s ≡ place) × (1 ≤ k) × (k < 1 + n)
 passed_atom s place k n h =
     let first : ((s == place) && nat_le 1 k) ≡ true = first_so ((s == place) && nat_le 1 k) (nat_le k n) h in
     let same : (s == place) ≡ true = first_so (s == place) (nat_le 1 k) first in

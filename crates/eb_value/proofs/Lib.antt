@@ -16,3 +16,5 @@ pub mod PairLaws
 pub mod RelationLaws
 pub mod ProductLaws
 pub mod FunctionLaws
+pub mod ReadingSteps
+pub mod ReadingLaws

@@ -8,3 +8,4 @@ pub mod Sets
 pub mod Merges
 pub mod Relations
 pub mod Joins
+pub mod Reading

@@ -9,6 +9,7 @@ mod merges;
 mod name;
 mod order;
 mod products;
+mod read;
 mod relations;
 mod scope;
 mod sets;
@@ -27,6 +28,7 @@ pub use lists::{Bytes, Calls, NamedFiles, Names, Row, Sizes, Values};
 pub use name::Name;
 pub use order::{compare, is_ascending};
 pub use products::{compose, cross, direct, parallel};
+pub use read::{ValueFault, read_value};
 pub use relations::{
     dom_drop, dom_keep, domain, image, inverse, overlay, ran_drop, ran_keep, range,
 };
