@@ -12,13 +12,13 @@ use Rattle.eb_value.specs.Counts.{integers_within}
 use Rattle.eb_value.proofs.CountLaws.{vals-integer}
 use Rattle.eb_value.proofs.Members.{contains_none, contains_cases, contains_here, contains_there}
 
-gap_up : (lo end : ℤ) → lo ≤ℤ end → lo +ℤ pos (int_gap lo end) ≡ end
+pub gap_up : (lo end : ℤ) → lo ≤ℤ end → lo +ℤ pos (int_gap lo end) ≡ end
 gap_up (pos a) (pos b) h = omega (arith, ints)
 gap_up (pos a) (negsuc b) h = absurd (omega (arith, ints))
 gap_up (negsuc a) (pos b) h = omega (arith, ints)
 gap_up (negsuc a) (negsuc b) h = omega (arith, ints)
 
-gap_none : (lo end : ℤ) → end ≤ℤ lo → int_gap lo end ≡ 0
+pub gap_none : (lo end : ℤ) → end ≤ℤ lo → int_gap lo end ≡ 0
 gap_none (pos a) (pos b) h = omega (arith, ints)
 gap_none (pos a) (negsuc b) h = refl
 gap_none (negsuc a) (pos b) h = absurd (omega (arith, ints))
@@ -27,14 +27,14 @@ gap_none (negsuc a) (negsuc b) h = omega (arith, ints)
 abbrev Within : ℤ → ℤ → Value → Type 0
 Within lo hi v = (n : ℤ) × (v ≡ int n) × (lo ≤ℤ n) × (n ≤ℤ hi)
 
-from_up : (lo : ℤ) (n : ℕ) (v : Value) → Contains (ints_from lo n) v → (m : ℤ) × (v ≡ int m) × (lo ≤ℤ m) × (m <ℤ (lo +ℤ pos n))
+pub from_up : (lo : ℤ) (n : ℕ) (v : Value) → Contains (ints_from lo n) v → (m : ℤ) × (v ≡ int m) × (lo ≤ℤ m) × (m <ℤ (lo +ℤ pos n))
 from_up lo zero v h = absurd (contains_none v h)
 from_up lo (suc n) v h = ⊎_elim
     (λ e. (lo, sym e, omega (arith, ints), omega (arith, ints)))
     (λ k. let r = from_up (lo +ℤ pos 1) n v k in (r.0, r.1, omega (arith, ints, r.2), omega (arith, ints, r.3)))
     (contains_cases (int lo) (ints_from (lo +ℤ pos 1) n) v h)
 
-up_from : (lo : ℤ) (n : ℕ) (m : ℤ) → lo ≤ℤ m → m <ℤ (lo +ℤ pos n) → Contains (ints_from lo n) (int m)
+pub up_from : (lo : ℤ) (n : ℕ) (m : ℤ) → lo ≤ℤ m → m <ℤ (lo +ℤ pos n) → Contains (ints_from lo n) (int m)
 up_from lo zero m l u = absurd (omega (arith, ints))
 up_from lo (suc n) m l u = by_lt_z lo m
     (λ h. contains_there (int lo) (ints_from (lo +ℤ pos 1) n) (int m) (up_from (lo +ℤ pos 1) n m (omega (arith, ints)) (omega (arith, ints))))

@@ -5,3 +5,16 @@ pub mod CountLaws
 pub mod TextLaws
 pub mod Members
 pub mod IntegerLaws
+pub mod Ascending
+pub mod SetLaws
+pub mod ListingLaws
+pub mod ValsLaws
+pub mod TypingLaws
+pub mod Completeness
+pub mod MergeLaws
+pub mod PairLaws
+pub mod RelationLaws
+pub mod ProductLaws
+pub mod FunctionLaws
+pub mod ReadingSteps
+pub mod ReadingLaws

@@ -151,7 +151,7 @@ less-nat : (m n : ℕ) → m < n → nat_cmp m n ≡ Less
 less-nat m n h = grind arith
 
 -- a lower value has no higher rank
-rank_up : (v w : Value) → compare v w ≡ Less → rank v ≤ rank w
+pub rank_up : (v w : Value) → compare v w ≡ Less → rank v ≤ rank w
 rank_up = ind_pair (λ v w. compare v w ≡ Less → rank v ≤ rank w) (record {
   int = λ m n h. omega (arith, rank-int m, rank-int n);
   truth = λ b c h. omega (arith, rank-truth b, rank-truth c);

@@ -4,3 +4,8 @@ pub mod Typing
 pub mod Scopes
 pub mod Counts
 pub mod Texts
+pub mod Sets
+pub mod Merges
+pub mod Relations
+pub mod Joins
+pub mod Reading

@@ -6,8 +6,9 @@ use Rattle.eb_value.specs.declared.types.EbType.{EbType, fold-EbType}
 use Rattle.eb_value.specs.declared.types.Shape.{Shape-F}
 use Rattle.eb_value.specs.declared.types.Shape.TheOpen as ty
 use Rattle.eb_value.specs.declared.value.Value.{Value}
+use Rattle.eb_value.specs.declared.value.Form.{Form-F}
 use Rattle.eb_value.specs.declared.value.Form.TheOpen as val
-use Rattle.eb_value.specs.Values.{Layer, layer, is_ascending}
+use Rattle.eb_value.specs.Values.{Layer, layer, by_parts, is_ascending}
 
 -- within -2^62 .. 2^62
 abbrev pub in_range : ℤ → Bool
@@ -29,3 +30,14 @@ typed_step sizes _ _ = false
 -- carrier set's size, and its sets are ascending.
 abbrev pub has_type : Scope → Value → EbType → Bool
 has_type scope v t = fold-EbType (Value → Bool) (Value → Bool) (λ s v. typed_step scope.sizes s (layer v)) (λ t. t.shape) t v
+
+abbrev pub bounded_step : ℤ → ℤ → Form-F Bool Bool → Bool
+bounded_step lo hi (val.Int n) = int_le lo n && int_le n hi
+bounded_step lo hi (val.Bool b) = true
+bounded_step lo hi (val.Atom s k) = true
+bounded_step lo hi (val.Pair a b) = a && b
+bounded_step lo hi (val.Set members) = list_all (λ b. b) members
+
+-- each integer in the value lies within the scope's bounds
+abbrev pub is_bounded : Scope → Value → Bool
+is_bounded scope = by_parts Bool (bounded_step scope.lo scope.hi)

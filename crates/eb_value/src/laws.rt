@@ -1,13 +1,15 @@
 //! What holds of the order of values, for callers to cite.
 
-ghost use Rattle.std.specs.Prelude.{◌≡◌, ◌↔◌, ℤ, ◌≤ℤ◌, Contains};
+ghost use Rattle.std.specs.Prelude.{◌≡◌, ◌↔◌, List, true, ℤ, pos, negsuc, ◌≤ℤ◌, Contains};
 ghost use Rattle.std.specs.Ordering.{ordering_reverse};
 ghost use Rattle.std.specs.declared.cmp.Ordering.TheVariants.{Less, Equal};
 ghost use Rattle.eb_value.specs.declared.value.Value.{Value};
 ghost use Rattle.eb_value.specs.declared.scope.Scope.{Scope};
+ghost use Rattle.eb_value.specs.declared.types.EbType.{EbType};
 ghost use Rattle.eb_value.specs.Types.{integer};
 ghost use Rattle.eb_value.specs.Values as spec;
 ghost use Rattle.eb_value.specs.Scopes.{vals};
+ghost use Rattle.eb_value.specs.Typing.{has_type, is_bounded};
 
 /// The order of values is total, and tells any two values apart.
 pub fn order_is_total()
@@ -16,6 +18,26 @@ pub fn order_is_total()
     ensures reversed { (v w : Value) → spec.compare w v ≡ ordering_reverse (spec.compare v w) }
     ensures transitive { (u v w : Value) →
         spec.compare u v ≡ Less → spec.compare v w ≡ Less → spec.compare u w ≡ Less }
+{}
+
+/// Ascending lists with the same members are equal.
+pub fn members_determine_ascending_lists()
+    ensures { (xs ys : List Value) → spec.is_ascending xs ≡ true → spec.is_ascending ys ≡ true
+        → ((v : Value) → Contains xs v ↔ Contains ys v) → xs ≡ ys }
+{}
+
+/// The list of all values of a type is ascending.
+pub fn values_are_ascending()
+    ensures { (scope : Scope) (ty : EbType) → spec.is_ascending (vals scope ty) ≡ true }
+{}
+
+/// The list of all values of a type has exactly those values of the type whose integers lie
+/// within the scope's bounds.
+pub fn values_are_complete()
+    ensures { (scope : Scope) → negsuc 4611686018427387903 ≤ℤ scope.lo
+        → scope.hi ≤ℤ pos 4611686018427387904 → (ty : EbType) (v : Value)
+        → Contains (vals scope ty) v
+        ↔ ((has_type scope v ty ≡ true) × (is_bounded scope v ≡ true)) }
 {}
 
 /// The integers of a scope are those from its lower to its upper bound.

@@ -45,7 +45,7 @@ fn all_have_type(values: &[Value], ty: &EbType, scope: &Scope) -> bool
 }
 
 /// How many atoms a carrier set has.
-fn size_of(scope: &Scope, place: u32) -> u32
+pub(crate) fn size_of(scope: &Scope, place: u32) -> u32
     ensures { result ≡ spec.size_of scope.now.sizes place }
 {
     scope.sizes.get(place as usize).copied().unwrap_or(0)
