@@ -119,7 +119,11 @@ impl Term {
             Head::Binary(operator, left, right) => {
                 let left = left.get().copied(alloc)?;
                 let right = right.get().copied(alloc)?;
-                Head::Binary(*operator, Boxed::new(alloc, left)?, Boxed::new(alloc, right)?)
+                Head::Binary(
+                    *operator,
+                    Boxed::new(alloc, left)?,
+                    Boxed::new(alloc, right)?,
+                )
             }
         };
         Ok(Term { head })

@@ -1,0 +1,47 @@
+use super::{Status, run};
+use cbc_outside::{Failed, MemSink, MemSource, Sink, Source};
+use eb_value::{Bytes, Calls, Name, NamedFiles, Names};
+use std::alloc::{AllocError, Global};
+use std::str;
+use std::test::Fail;
+
+mod faults;
+mod languages;
+
+const NOT_YET: &str = "refused E15 NotYet\n";
+
+/// What a run wrote, and how it ended.
+type Outcome = (Bytes, Status);
+
+/// The words that a `/` parts.
+fn names_of(alloc: Global, words: &str) -> Result<Names, AllocError> {
+    let mut names = Names::new(alloc);
+    if !words.is_empty() {
+        for word in words.split('/') {
+            names.push(Name::new(alloc, word)?)?;
+        }
+    }
+    Ok(names)
+}
+
+/// A source with one file, `m`.
+fn source_of(alloc: Global, text: &[u8], failing: &[u64]) -> Result<MemSource, AllocError> {
+    let mut files = NamedFiles::new(alloc);
+    files.push((Name::new(alloc, "m")?, Bytes::from_slice(alloc, text)?))?;
+    Ok(MemSource::new(files, Calls::from_slice(alloc, failing)?))
+}
+
+fn outcome(alloc: Global, words: &str, text: &[u8]) -> Result<Outcome, AllocError> {
+    let words = names_of(alloc, words)?;
+    let mut src = source_of(alloc, text, &[])?;
+    let mut out = MemSink::new(alloc, 4 << 20, Calls::new(alloc))?;
+    let status = run(alloc, words.as_slice(), &mut src, &mut out);
+    Ok((Bytes::from_slice(alloc, out.taken())?, status))
+}
+
+/// A context with these constants and axioms, and this scope of integers.
+fn model(alloc: Global, constants: &str, axioms: &str, scope: &str) -> Result<String, AllocError> {
+    format!(in alloc;
+        "context C constants {constants} axioms {axioms} end scope int {scope} end queries axioms end"
+    )
+}

@@ -1,0 +1,135 @@
+ghost use Rattle.std.specs.Prelude.{Some};
+
+use super::*;
+
+/// Files that are read one byte a call.
+#[derive(Drop)]
+struct SlowSource {
+    inner: MemSource,
+}
+
+impl Source for SlowSource {
+    ghost files = { λ s. Some s.inner.files };
+
+    ghost open_name = { λ s. s.inner.open_name };
+
+    ghost rest = { λ s. Some s.inner.rest };
+
+    ghost faults = { λ s. s.inner.faults };
+
+    ghost fault_name = { λ s. s.inner.fault_name };
+
+    fn open(&mut self, name: Name) -> Result<(), Failed> {
+        self.inner.open(name)
+    }
+
+    fn read(&mut self, into: &mut [u8]) -> Result<usize, Failed> {
+        match into {
+            [first, ..] => {
+                let mut byte = [*first];
+                let count = self.inner.read(&mut byte)?;
+                *first = byte[0];
+                Ok(count)
+            }
+            [] => self.inner.read(into),
+        }
+    }
+}
+
+/// A room for bytes that takes one a call.
+#[derive(Drop)]
+struct SlowSink {
+    inner: MemSink,
+}
+
+impl Sink for SlowSink {
+    ghost taken = { λ s. Some s.inner.taken };
+
+    ghost faults = { λ s. s.inner.faults };
+
+    fn write(&mut self, piece: &[u8]) -> Result<usize, Failed> {
+        self.inner.write(&piece[..piece.len().min(1)])
+    }
+}
+
+const FOUND: &str = "query axioms\nfound\nconstant n = 3\nend\n";
+
+const MODEL: &str =
+    "context C constants n axioms @a n > 2 & n < 4 end scope int 0..5 end queries axioms end";
+
+/// What `solve m` writes, with these calls of the source and the sink failing.
+fn solved(
+    alloc: Global,
+    reads: &[u64],
+    writes: &[u64],
+    is_slow: bool,
+) -> Result<Outcome, AllocError> {
+    let words = names_of(alloc, "solve/m")?;
+    let mut src = source_of(alloc, MODEL.as_bytes(), reads)?;
+    let mut out = MemSink::new(alloc, 1000, Calls::from_slice(alloc, writes)?)?;
+    if !is_slow {
+        let status = run(alloc, words.as_slice(), &mut src, &mut out);
+        return Ok((Bytes::from_slice(alloc, out.taken())?, status));
+    }
+    let mut src = SlowSource { inner: src };
+    let mut out = SlowSink { inner: out };
+    let status = run(alloc, words.as_slice(), &mut src, &mut out);
+    Ok((Bytes::from_slice(alloc, out.inner.taken())?, status))
+}
+
+#[test]
+fn faults_end_a_run(rt: HostRuntime) -> Result<(), Fail> {
+    let alloc = rt.alloc();
+    for is_slow in [false, true] {
+        let whole = solved(alloc, &[], &[], is_slow)?;
+        assert_eq!(rt; whole.0.as_slice(), FOUND.as_bytes());
+        assert_eq!(rt; whole.1, Status::Decided);
+        // Opening is the first call of the source, and the first reading the second.
+        for call in [1, 2, 3] {
+            let cut = solved(alloc, &[call], &[], is_slow)?;
+            assert_eq!(rt; cut.0.as_slice(), b"".as_slice());
+            assert_eq!(rt; cut.1, Status::ReadFault);
+        }
+        let cut = solved(alloc, &[], &[1], is_slow)?;
+        assert_eq!(rt; cut.0.as_slice(), b"".as_slice());
+        assert_eq!(rt; cut.1, Status::WriteFault);
+    }
+    // Each later byte failing in turn.
+    for taken in 0..FOUND.len() {
+        let cut = solved(alloc, &[], &[taken as u64 + 1], true)?;
+        assert_eq!(rt; cut.0.as_slice(), &FOUND.as_bytes()[..taken]);
+        assert_eq!(rt; cut.1, Status::WriteFault);
+    }
+    Ok(())
+}
+
+#[test]
+fn words_and_files_are_judged(rt: HostRuntime) -> Result<(), Fail> {
+    let alloc = rt.alloc();
+    for words in [
+        "",
+        "solve",
+        "solve/-x",
+        "solve/",
+        "solve/m/m",
+        "Solve/m",
+        "m/solve",
+    ] {
+        let ended = outcome(alloc, words, MODEL.as_bytes())?;
+        assert_eq!(rt; ended.0.as_slice(), b"refused E14 Words\n".as_slice());
+        assert_eq!(rt; ended.1, Status::Refused);
+    }
+    let ended = outcome(alloc, "solve/other", MODEL.as_bytes())?;
+    assert_eq!(rt; ended.0.as_slice(), b"".as_slice());
+    assert_eq!(rt; ended.1, Status::ReadFault);
+    // Blanks up to 4 MiB are no text of the language, and one byte more is too long.
+    let mut text = Vec::new(alloc);
+    text.resize(4 << 20, b' ')?;
+    let ended = outcome(alloc, "solve/m", text.as_slice())?;
+    assert_eq!(rt; ended.0.as_slice(), NOT_YET.as_bytes());
+    text.push(b' ')?;
+    let ended = outcome(alloc, "solve/m", text.as_slice())?;
+    assert_eq!(rt; ended.0.as_slice(), b"refused E13 TooLong\n".as_slice());
+    assert_eq!(rt; ended.1, Status::Refused);
+    Ok(())
+}

@@ -1,0 +1,402 @@
+ghost use Rattle.std.specs.Prelude.{◌≡◌, ◌≤◌, ◌^◌, map, MatchOption, IfSome, IfNone, length, [], ◌∷◌, not, true, false, ◌&&◌, nat_le, int_le, pos, negsuc, ◌≤ℤ◌, ◌+ℤ◌};
+ghost use Rattle.std.specs.Int.{int_gap};
+ghost use Rattle.std.specs.List.{list_all, list_any, flat_map};
+ghost use Rattle.std.specs.Str.{bytes_eq};
+ghost use Rattle.cbc_top.specs.Grammar as grammar;
+
+use super::syntax::{
+    Axiom, Bound, Comparison, Context, Direction, ModelText, Relation, Sum, Summand,
+};
+use eb_value::Name;
+
+/// The words that are no identifiers.
+const RESERVED: [&str; 53] = [
+    "or",
+    "not",
+    "true",
+    "false",
+    "mod",
+    "circ",
+    "INT",
+    "NAT",
+    "NAT1",
+    "POW",
+    "POW1",
+    "UNION",
+    "INTER",
+    "BOOL",
+    "TRUE",
+    "FALSE",
+    "card",
+    "min",
+    "max",
+    "dom",
+    "ran",
+    "union",
+    "inter",
+    "bool",
+    "finite",
+    "partition",
+    "id",
+    "prj1",
+    "prj2",
+    "context",
+    "extends",
+    "sets",
+    "constants",
+    "axioms",
+    "theorem",
+    "end",
+    "machine",
+    "refines",
+    "sees",
+    "variables",
+    "invariants",
+    "variant",
+    "events",
+    "event",
+    "any",
+    "where",
+    "when",
+    "with",
+    "begin",
+    "then",
+    "ordinary",
+    "convergent",
+    "anticipated",
+];
+
+fn is_one_of(words: &[&str], word: &str) -> bool
+    ensures { result ≡ list_any (λ other. bytes_eq other.now word.now) words.now }
+{
+    words.iter().any(|other| *other == word)
+}
+
+fn is_identifier(word: &str) -> bool
+    ensures { result ≡ grammar.is_identifier word.now }
+{
+    !is_one_of(&RESERVED, word)
+}
+
+fn is_among(names: &[Name], name: &str) -> bool
+    ensures { result ≡ grammar.is_among names.now name.now }
+{
+    names.iter().any(|other| other.as_str() == name)
+}
+
+fn summand_uses(summand: &Summand, name: &str) -> bool
+    ensures { result ≡ grammar.is_among (grammar.summand_names summand.now) name.now }
+{
+    match summand {
+        Summand::Number(_) => false,
+        Summand::Constant(other) => other.as_str() == name,
+        Summand::Product(_, other) => other.as_str() == name,
+    }
+}
+
+fn is_number(summand: &Summand) -> bool
+    ensures { result ≡ grammar.is_number summand.now }
+{
+    matches!(summand, Summand::Number(_))
+}
+
+fn is_equality(relation: Relation) -> bool
+    ensures { result ≡ grammar.is_equality relation }
+{
+    matches!(relation, Relation::Equal | Relation::Unequal)
+}
+
+/// Whether the sums are no longer than 50, and a number stands at the right of `=` and `/=`.
+fn is_comparison(comparison: &Comparison) -> bool
+    ensures { result ≡ grammar.is_comparison comparison.now }
+{
+    comparison.left.rest.len() <= 49
+        && comparison.right.rest.len() <= 49
+        && (!is_equality(comparison.relation)
+            || (is_number(&comparison.right.first) && comparison.right.rest.is_empty()))
+}
+
+fn are_comparisons(comparisons: &[Comparison]) -> bool
+    ensures { result ≡ list_all grammar.is_comparison comparisons.now }
+{
+    comparisons.iter().all(is_comparison)
+}
+
+/// Whether it has 1 to 50 comparisons.
+fn is_axiom(fact: &Axiom) -> bool
+    ensures { result ≡ grammar.is_axiom fact.now }
+{
+    let comparisons = fact.comparisons.as_slice();
+    !comparisons.is_empty() && comparisons.len() <= 50 && are_comparisons(comparisons)
+}
+
+fn parts_use(parts: &[(Direction, Summand)], name: &str) -> bool
+    ensures { result ≡ list_any (λ part. grammar.is_among (grammar.summand_names part.1) name.now) parts.now }
+{
+    parts.iter().any(|part| summand_uses(&part.1, name))
+}
+
+#[tactic(auto, using(crate::proofs::UsedNames::sum_use))]
+fn sum_uses(sum: &Sum, name: &str) -> bool
+    ensures { result ≡ grammar.is_among (grammar.sum_names sum.now) name.now }
+{
+    summand_uses(&sum.first, name) || parts_use(sum.rest.as_slice(), name)
+}
+
+#[tactic(auto, using(crate::proofs::UsedNames::comparison_use))]
+fn comparison_uses(comparison: &Comparison, name: &str) -> bool
+    ensures { result ≡ grammar.is_among (grammar.comparison_names comparison.now) name.now }
+{
+    sum_uses(&comparison.left, name) || sum_uses(&comparison.right, name)
+}
+
+fn comparisons_use(comparisons: &[Comparison], name: &str) -> bool
+    ensures { result ≡ list_any (λ c. grammar.is_among (grammar.comparison_names c) name.now) comparisons.now }
+{
+    comparisons
+        .iter()
+        .any(|comparison| comparison_uses(comparison, name))
+}
+
+#[tactic(auto, using(crate::proofs::UsedNames::axiom_use))]
+fn axiom_uses(fact: &Axiom, name: &str) -> bool
+    ensures { result ≡ grammar.is_among (grammar.axiom_names fact.now) name.now }
+{
+    comparisons_use(fact.comparisons.as_slice(), name)
+}
+
+fn axioms_use(facts: &[Axiom], name: &str) -> bool
+    ensures { result ≡ list_any (λ a. grammar.is_among (grammar.axiom_names a) name.now) facts.now }
+{
+    facts.iter().any(|fact| axiom_uses(fact, name))
+}
+
+#[tactic(auto, using(crate::proofs::UsedNames::context_use))]
+fn uses(context: &Context, name: &str) -> bool
+    ensures { result ≡ grammar.is_among (grammar.used_names context.now) name.now }
+{
+    axioms_use(context.axioms.as_slice(), name)
+}
+
+fn are_used(context: &Context, names: &[Name]) -> bool
+    ensures { result ≡ list_all (grammar.is_among (grammar.used_names context.now)) names.now }
+{
+    names.iter().all(|name| uses(context, name.as_str()))
+}
+
+fn knows_summand(names: &[Name], summand: &Summand) -> bool
+    ensures { result ≡ list_all (grammar.is_among names.now) (grammar.summand_names summand.now) }
+{
+    match summand {
+        Summand::Number(_) => true,
+        Summand::Constant(name) => is_among(names, name.as_str()),
+        Summand::Product(_, name) => is_among(names, name.as_str()),
+    }
+}
+
+fn knows_parts(names: &[Name], parts: &[(Direction, Summand)]) -> bool
+    ensures { result ≡ list_all (λ part. list_all (grammar.is_among names.now) (grammar.summand_names part.1)) parts.now }
+{
+    parts.iter().all(|part| knows_summand(names, &part.1))
+}
+
+#[tactic(auto, using(crate::proofs::UsedNames::sum_known))]
+fn knows_sum(names: &[Name], sum: &Sum) -> bool
+    ensures { result ≡ list_all (grammar.is_among names.now) (grammar.sum_names sum.now) }
+{
+    knows_summand(names, &sum.first) && knows_parts(names, sum.rest.as_slice())
+}
+
+#[tactic(auto, using(crate::proofs::UsedNames::comparison_known))]
+fn knows_comparison(names: &[Name], comparison: &Comparison) -> bool
+    ensures { result ≡ list_all (grammar.is_among names.now) (grammar.comparison_names comparison.now) }
+{
+    knows_sum(names, &comparison.left) && knows_sum(names, &comparison.right)
+}
+
+fn knows_comparisons(names: &[Name], comparisons: &[Comparison]) -> bool
+    ensures { result ≡ list_all (λ c. list_all (grammar.is_among names.now) (grammar.comparison_names c)) comparisons.now }
+{
+    comparisons
+        .iter()
+        .all(|comparison| knows_comparison(names, comparison))
+}
+
+#[tactic(auto, using(crate::proofs::UsedNames::axiom_known))]
+fn knows_axiom(names: &[Name], fact: &Axiom) -> bool
+    ensures { result ≡ list_all (grammar.is_among names.now) (grammar.axiom_names fact.now) }
+{
+    knows_comparisons(names, fact.comparisons.as_slice())
+}
+
+fn knows_axioms(names: &[Name], facts: &[Axiom]) -> bool
+    ensures { result ≡ list_all (λ a. list_all (grammar.is_among names.now) (grammar.axiom_names a)) facts.now }
+{
+    facts.iter().all(|fact| knows_axiom(names, fact))
+}
+
+/// Whether each name in the axioms is a constant.
+#[tactic(auto, using(crate::proofs::UsedNames::context_known))]
+fn knows_all(context: &Context) -> bool
+    ensures { result ≡ list_all (grammar.is_among context.now.constants) (grammar.used_names context.now) }
+{
+    knows_axioms(context.constants.as_slice(), context.axioms.as_slice())
+}
+
+fn are_identifiers(names: &[Name]) -> bool
+    ensures { result ≡ list_all grammar.is_identifier names.now }
+{
+    names.iter().all(|name| is_identifier(name.as_str()))
+}
+
+fn first_name(names: &[Name]) -> Option<(&Name, &[Name])>
+    ensures { MatchOption result (names.now ≡ []) (λ x. names.now ≡ x.0.now ∷ x.1.now) }
+{
+    match names {
+        [first, rest @ ..] => Some((first, rest)),
+        [] => None,
+    }
+}
+
+fn are_distinct(names: &[Name]) -> bool
+    ensures { result ≡ grammar.are_distinct names.now }
+{
+    let mut rest = names;
+    while let Some((first, others)) = first_name(rest) {
+        if is_among(others, first.as_str()) {
+            return false;
+        }
+        rest = others;
+    }
+    true
+}
+
+fn is_label(facts: &[Axiom], label: &str) -> bool
+    ensures { result ≡ list_any (λ a. bytes_eq a.label label.now) facts.now }
+{
+    facts.iter().any(|fact| fact.label.as_str() == label)
+}
+
+fn first_axiom(facts: &[Axiom]) -> Option<(&Axiom, &[Axiom])>
+    ensures { MatchOption result (facts.now ≡ []) (λ x. facts.now ≡ x.0.now ∷ x.1.now) }
+{
+    match facts {
+        [first, rest @ ..] => Some((first, rest)),
+        [] => None,
+    }
+}
+
+fn have_distinct_labels(facts: &[Axiom]) -> bool
+    ensures { result ≡ grammar.are_distinct (map (λ a. a.label) facts.now) }
+{
+    let mut rest = facts;
+    while let Some((first, others)) = first_axiom(rest) {
+        if is_label(others, first.label.as_str()) {
+            return false;
+        }
+        rest = others;
+    }
+    true
+}
+
+fn are_axioms(facts: &[Axiom]) -> bool
+    ensures { result ≡ list_all grammar.is_axiom facts.now }
+{
+    facts.iter().all(is_axiom)
+}
+
+fn has_axioms(context: &Context) -> bool
+    ensures { result ≡ grammar.has_axioms context.now }
+{
+    let facts = context.axioms.as_slice();
+    are_axioms(facts) && have_distinct_labels(facts)
+}
+
+fn has_names(names: &[Name]) -> bool
+    ensures { result ≡ not (grammar.is_nil names.now) }
+{
+    !names.is_empty()
+}
+
+/// Whether the constants are one or more distinct identifiers, each is used, and each used name is
+/// one.
+fn has_constants(context: &Context) -> bool
+    ensures { result ≡ grammar.has_constants context.now }
+{
+    let constants = context.constants.as_slice();
+    is_identifier(context.name.as_str())
+        && has_names(constants)
+        && are_identifiers(constants)
+        && are_distinct(constants)
+        && are_used(context, constants)
+        && knows_all(context)
+}
+
+/// The number of a bound, if it is within -32768..=32767.
+fn bound_of(bound: Bound) -> Option<i64>
+    ensures inside { IfSome result (λ n. (n ≡ grammar.bound_value bound) × (int_le (negsuc 32767) n ≡ true) × (int_le n (pos 32767) ≡ true)) }
+    ensures outside { IfNone result ((int_le (negsuc 32767) (grammar.bound_value bound) && int_le (grammar.bound_value bound) (pos 32767)) ≡ false) }
+{
+    if bound.number < -32768 || bound.number > 32768 {
+        return None;
+    }
+    let value = if bound.is_negative {
+        -bound.number
+    } else {
+        bound.number
+    };
+    (-32768 <= value && value <= 32767).then_some(value)
+}
+
+/// How many numbers a scope within -32768..=32767 has.
+fn width_of(lo: i64, hi: i64) -> u64
+    requires { (pos 0 ≤ℤ (lo +ℤ pos 32768)) × (lo ≤ℤ hi) × (hi ≤ℤ pos 32767) }
+    ensures width { result ≡ int_gap lo (hi +ℤ pos 1) }
+    ensures some { (1 ≤ result) × (result ≤ 65536) }
+{
+    (hi - lo + 1) as u64
+}
+
+/// Whether so many constants have at most 100,000 valuations, each with so many values.
+fn are_few(width: u64, constants: usize) -> bool
+    requires { (1 ≤ width) × (width ≤ 65536) }
+    ensures { result ≡ nat_le (width ^ constants) 100000 }
+{
+    let mut total = 1u64;
+    for _ in 0..constants {
+        total = total * width;
+        if total > 100000 {
+            return false;
+        }
+    }
+    true
+}
+
+/// The ends of the scope, if it is within -32768..=32767 and not empty.
+#[tactic(auto, using(crate::proofs::ScopeLaws::low_outside, crate::proofs::ScopeLaws::high_outside))]
+pub fn ends_of(text: &ModelText) -> Option<(i64, i64)>
+    ensures inside { IfSome result (λ s. (s.0 ≡ grammar.bound_value text.now.lo) × (s.1 ≡ grammar.bound_value text.now.hi) × (grammar.has_scope text.now ≡ true)) }
+    ensures within { IfSome result (λ s. (pos 0 ≤ℤ (s.0 +ℤ pos 32768)) × (s.0 ≤ℤ s.1) × (s.1 ≤ℤ pos 32767)) }
+    ensures outside { IfNone result (grammar.has_scope text.now ≡ false) }
+{
+    let lo = bound_of(text.lo)?;
+    let hi = bound_of(text.hi)?;
+    (lo <= hi).then_some((lo, hi))
+}
+
+/// Whether the scope is one of the language and its constants have at most 100,000 valuations.
+fn has_few_valuations(text: &ModelText) -> bool
+    ensures { result ≡ (grammar.has_scope text.now && nat_le (grammar.valuations text.now) 100000) }
+{
+    match ends_of(text) {
+        Some((lo, hi)) => are_few(width_of(lo, hi), text.context.constants.len()),
+        None => false,
+    }
+}
+
+/// Whether the text keeps the conditions that stand beside the productions.
+pub fn is_well_formed(text: &ModelText) -> bool
+    ensures { result ≡ grammar.is_well_formed text.now }
+{
+    has_constants(&text.context) && has_axioms(&text.context) && has_few_valuations(text)
+}

@@ -1,0 +1,77 @@
+//! Makes large sets and relations, applies the operator that the first word names, and prints
+//! how many members the result has. The script under bench/ times it.
+#![tactic(auto)]
+
+use eb_value::{
+    EbType, Form, Scope, Shape, Sizes, Value, Values, compose, count, is_ascending, union, values,
+};
+use sqlite_items::Boxed;
+use std::alloc::{AllocError, Global};
+use std::{env, io};
+
+fn integer(n: i64) -> Value {
+    Value { form: Form::Int(n) }
+}
+
+/// The pairs of each number and the next one, from a number on.
+fn successors(alloc: Global, from: u32, many: u32) -> Result<Values, AllocError> {
+    let mut pairs = Values::new(alloc);
+    for k in 0..many {
+        let first = i64::from(from) + i64::from(k);
+        let first_part = Boxed::new(alloc, integer(first))?;
+        let second_part = Boxed::new(alloc, integer(first + 1))?;
+        pairs.push(Value {
+            form: Form::Pair(first_part, second_part),
+        })?;
+    }
+    Ok(pairs)
+}
+
+/// The sets of the atoms of a carrier set with sixteen.
+fn all_sets(alloc: Global) -> Result<Values, AllocError> {
+    let mut sizes = Sizes::new(alloc);
+    sizes.push(16)?;
+    let scope = Scope {
+        lo: 0,
+        hi: 0,
+        sizes,
+        depth: 0,
+    };
+    let atoms = EbType {
+        shape: Shape::Carrier(0),
+    };
+    let sets = EbType {
+        shape: Shape::Power(Boxed::new(alloc, atoms)?),
+    };
+    if count(&sets, &scope) <= 65536 {
+        values(alloc, &sets, &scope)
+    } else {
+        Ok(Values::new(alloc))
+    }
+}
+
+fn result_of(alloc: Global, operator: &str) -> Result<Values, AllocError> {
+    if operator == "values" {
+        return all_sets(alloc);
+    }
+    let left = successors(alloc, 0, 4000)?;
+    let right = successors(alloc, 2000, 4000)?;
+    if !is_ascending(left.as_slice()) || !is_ascending(right.as_slice()) {
+        return Ok(Values::new(alloc));
+    }
+    if operator == "union" {
+        union(alloc, &left, &right)
+    } else {
+        compose(alloc, &left, &right)
+    }
+}
+
+fn main(rt: HostRuntime) -> io::Result<()> {
+    let alloc = rt.alloc();
+    let words = env::args(&rt)?;
+    for operator in words.skip(1) {
+        let result = result_of(alloc, operator.as_str())?;
+        println!(rt; "{} {}", operator.as_str(), result.len())?;
+    }
+    Ok(())
+}
