@@ -1,13 +1,12 @@
 #!/usr/bin/env python3
-"""Times `solve` of the built program on refuted models and prints wall time and peak memory.
+"""Times `solve` on refuted models, and the operators on large sets and relations.
 
-Use: bench/run.py [PROGRAM]; PROGRAM is crates/cbc_program/out/cbc_program, where it was built by
-`rt run` or `rt ci` before. Each row runs once, in a process of its own.
+Use: bench/run.py, after `rt run` in crates/cbc_program and in crates/value_times has built the
+programs there. Each row runs once, in a process of its own, and prints wall time, processor time
+and peak memory. (A process this small shows the memory of the script that started it, some 14 MiB.)
 """
 import os
-import resource
 import subprocess
-import sys
 import tempfile
 import time
 
@@ -36,24 +35,36 @@ def rows():
     yield "3,000 constants, 1 valuation", model(constants, axioms, 1, 1)
 
 
-def timed(program, path):
+def timed(words):
     start = time.monotonic()
-    child = subprocess.Popen([program, "solve", path], stdout=subprocess.PIPE)
+    child = subprocess.Popen(words, stdout=subprocess.PIPE)
     lines = sum(1 for _ in child.stdout)
     _, status, usage = os.wait4(child.pid, 0)
     child.returncode = os.waitstatus_to_exitcode(status)
-    return time.monotonic() - start, usage.ru_maxrss / 1024, lines, child.returncode
+    wall = time.monotonic() - start
+    return lines, wall, usage.ru_utime + usage.ru_stime, usage.ru_maxrss / 1024, child.returncode
+
+
+def show(name, row):
+    lines, wall, processor, mebibytes, status = row
+    print(f"{name:36} {lines:>8} {wall:>8.3f} {processor:>8.3f} {mebibytes:>6.1f} {status:>6}")
 
 
 def main():
-    program = sys.argv[1] if len(sys.argv) > 1 else os.path.join(TOP, "crates/cbc_program/out/cbc_program")
-    print(f"{'model':36} {'lines':>8} {'seconds':>8} {'MiB':>6} status")
+    program = os.path.join(TOP, "crates/cbc_program/out/cbc_program")
+    operators = os.path.join(TOP, "crates/value_times/out/value_times")
+    print(f"{'row':36} {'lines':>8} {'seconds':>8} {'cpu':>8} {'MiB':>6} status")
     for name, text in rows():
         with tempfile.NamedTemporaryFile("w", suffix=".eb") as file:
             file.write(text)
             file.flush()
-            seconds, mebibytes, lines, status = timed(program, file.name)
-        print(f"{name:36} {lines:>8} {seconds:>8.3f} {mebibytes:>6.1f} {status}")
+            show(name, timed([program, "solve", file.name]))
+    for operator, name in (
+        ("values", "all sets of 16 atoms, 65,536 values"),
+        ("union", "union of relations of 4,000 pairs"),
+        ("compose", "composition of the same"),
+    ):
+        show(name, timed([operators, operator]))
 
 
 if __name__ == "__main__":
