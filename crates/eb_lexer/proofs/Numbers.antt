@@ -1,5 +1,5 @@
 -- The numbers that digits write.
-use Rattle.std.proofs.Common.{◌≡◌, ℕ, ◌+◌, ◌*◌, ◌-◌, ◌≤◌, ◌<◌, List, [], ◌∷◌, arith, refl}
+use Rattle.std.proofs.Common.{◌≡◌, ℕ, ◌+◌, ◌*◌, ◌-◌, ◌≤◌, ◌<◌, List, [], ◌∷◌, arith}
 use Rattle.std.specs.Prelude.{Some, None, pos}
 use Rattle.eb_lexer.specs.Tokens.{number_on}
 use Rattle.eb_lexer.specs.Lexing.{number_of}

@@ -1,13 +1,12 @@
 -- Bytes of characters.
-use Rattle.std.proofs.Common.{◌≡◌, ◌∙◌, ℕ, ◌+◌, ◌≤◌, ◌<◌, List, [], ◌∷◌, ◌++◌, length, take, drop, refl, sym, ap, arith, get_or}
+use Rattle.std.proofs.Common.{◌≡◌, ◌∙◌, ℕ, ◌+◌, ◌≤◌, ◌<◌, List, [], ◌∷◌, ◌++◌, length, take, drop, sym, ap, arith, get_or}
 use Rattle.std.specs.Str.{encode_utf8_all}
 use Rattle.std.specs.Char.{len_utf8, encode_utf8}
 use Rattle.std.proofs.lemmas.Str.{encodes-append, length-encode}
-use Rattle.std.proofs.lemmas.List.{take_more, drop_more, length-append, append-nil, take-append-drop}
+use Rattle.std.proofs.lemmas.List.{take_more, length-append, append-nil, take-append-drop}
 use Rattle.eb_lexer.specs.Tokens.{size}
 
 pub encodes_one : (d : ℕ) → encode_utf8_all (d ∷ []) ≡ encode_utf8 d
-
 encodes_one d = append-nil (encode_utf8 d)
 
 -- one character more

@@ -9,87 +9,87 @@ use Rattle.eb_lexer.specs.declared.token.Sign.TheVariants as s
 unfoldable pub signs : List (Sign × List (List ℕ))
 signs =
     -- connectives
-    (s.And, codes "&" ∷ (0x2227 ∷ []) ∷ []) ∷    -- ∧
-    (s.Or, codes "or" ∷ (0x2228 ∷ []) ∷ []) ∷    -- ∨
-    (s.Implies, codes "=>" ∷ (0x21D2 ∷ []) ∷ []) ∷    -- ⇒
-    (s.Equivalent, codes "<=>" ∷ (0x21D4 ∷ []) ∷ []) ∷    -- ⇔
-    (s.Not, codes "not" ∷ (0x00AC ∷ []) ∷ []) ∷    -- ¬
-    (s.ForAll, codes "!" ∷ (0x2200 ∷ []) ∷ []) ∷    -- ∀
-    (s.Exists, codes "#" ∷ (0x2203 ∷ []) ∷ []) ∷    -- ∃
-    (s.Dot, codes "." ∷ (0x00B7 ∷ []) ∷ []) ∷    -- ·
-    (s.Truth, codes "true" ∷ (0x22A4 ∷ []) ∷ []) ∷    -- ⊤
-    (s.Falsity, codes "false" ∷ (0x22A5 ∷ []) ∷ []) ∷    -- ⊥
+    (s.And, codes "&" ∷ (0x2227 ∷ []) ∷ []) ∷  -- ∧
+    (s.Or, codes "or" ∷ (0x2228 ∷ []) ∷ []) ∷  -- ∨
+    (s.Implies, codes "=>" ∷ (0x21D2 ∷ []) ∷ []) ∷  -- ⇒
+    (s.Equivalent, codes "<=>" ∷ (0x21D4 ∷ []) ∷ []) ∷  -- ⇔
+    (s.Not, codes "not" ∷ (0x00AC ∷ []) ∷ []) ∷  -- ¬
+    (s.ForAll, codes "!" ∷ (0x2200 ∷ []) ∷ []) ∷  -- ∀
+    (s.Exists, codes "#" ∷ (0x2203 ∷ []) ∷ []) ∷  -- ∃
+    (s.Dot, codes "." ∷ (0x00B7 ∷ []) ∷ []) ∷  -- ·
+    (s.Truth, codes "true" ∷ (0x22A4 ∷ []) ∷ []) ∷  -- ⊤
+    (s.Falsity, codes "false" ∷ (0x22A5 ∷ []) ∷ []) ∷  -- ⊥
     -- relations
     (s.Equal, codes "=" ∷ []) ∷
-    (s.Unequal, codes "/=" ∷ (0x2260 ∷ []) ∷ []) ∷    -- ≠
-    (s.MemberOf, codes ":" ∷ (0x2208 ∷ []) ∷ []) ∷    -- ∈
-    (s.NotMemberOf, codes "/:" ∷ (0x2209 ∷ []) ∷ []) ∷    -- ∉
-    (s.SubsetOf, codes "<:" ∷ (0x2286 ∷ []) ∷ []) ∷    -- ⊆
-    (s.NotSubsetOf, codes "/<:" ∷ (0x2288 ∷ []) ∷ []) ∷    -- ⊈
-    (s.ProperSubsetOf, codes "<<:" ∷ (0x2282 ∷ []) ∷ []) ∷    -- ⊂
-    (s.NotProperSubsetOf, codes "/<<:" ∷ (0x2284 ∷ []) ∷ []) ∷    -- ⊄
+    (s.Unequal, codes "/=" ∷ (0x2260 ∷ []) ∷ []) ∷  -- ≠
+    (s.MemberOf, codes ":" ∷ (0x2208 ∷ []) ∷ []) ∷  -- ∈
+    (s.NotMemberOf, codes "/:" ∷ (0x2209 ∷ []) ∷ []) ∷  -- ∉
+    (s.SubsetOf, codes "<:" ∷ (0x2286 ∷ []) ∷ []) ∷  -- ⊆
+    (s.NotSubsetOf, codes "/<:" ∷ (0x2288 ∷ []) ∷ []) ∷  -- ⊈
+    (s.ProperSubsetOf, codes "<<:" ∷ (0x2282 ∷ []) ∷ []) ∷  -- ⊂
+    (s.NotProperSubsetOf, codes "/<<:" ∷ (0x2284 ∷ []) ∷ []) ∷  -- ⊄
     (s.Less, codes "<" ∷ []) ∷
-    (s.AtMost, codes "<=" ∷ (0x2264 ∷ []) ∷ []) ∷    -- ≤
+    (s.AtMost, codes "<=" ∷ (0x2264 ∷ []) ∷ []) ∷  -- ≤
     (s.Greater, codes ">" ∷ []) ∷
-    (s.AtLeast, codes ">=" ∷ (0x2265 ∷ []) ∷ []) ∷    -- ≥
+    (s.AtLeast, codes ">=" ∷ (0x2265 ∷ []) ∷ []) ∷  -- ≥
     -- arithmetic
     (s.Plus, codes "+" ∷ []) ∷
-    (s.Minus, codes "-" ∷ (0x2212 ∷ []) ∷ []) ∷    -- −
-    (s.Times, codes "*" ∷ (0x2217 ∷ []) ∷ []) ∷    -- ∗
-    (s.Divide, codes "/" ∷ (0x00F7 ∷ []) ∷ []) ∷    -- ÷
+    (s.Minus, codes "-" ∷ (0x2212 ∷ []) ∷ []) ∷  -- −
+    (s.Times, codes "*" ∷ (0x2217 ∷ []) ∷ []) ∷  -- ∗
+    (s.Divide, codes "/" ∷ (0x00F7 ∷ []) ∷ []) ∷  -- ÷
     (s.Modulo, codes "mod" ∷ []) ∷
     (s.Power, codes "^" ∷ []) ∷
-    (s.UpTo, codes ".." ∷ (0x2025 ∷ []) ∷ []) ∷    -- ‥
+    (s.UpTo, codes ".." ∷ (0x2025 ∷ []) ∷ []) ∷  -- ‥
     -- sets
-    (s.MapsTo, codes "|->" ∷ (0x21A6 ∷ []) ∷ []) ∷    -- ↦
-    (s.Union, codes "\\/" ∷ (0x222A ∷ []) ∷ []) ∷    -- ∪
-    (s.Intersection, codes "/\\" ∷ (0x2229 ∷ []) ∷ []) ∷    -- ∩
-    (s.Difference, codes "\\" ∷ (0x2216 ∷ []) ∷ []) ∷    -- ∖
-    (s.Product, codes "**" ∷ (0x00D7 ∷ []) ∷ []) ∷    -- ×
-    (s.Lambda, codes "%" ∷ (0x03BB ∷ []) ∷ []) ∷    -- λ
-    (s.Bar, codes "|" ∷ (0x2223 ∷ []) ∷ []) ∷    -- ∣
+    (s.MapsTo, codes "|->" ∷ (0x21A6 ∷ []) ∷ []) ∷  -- ↦
+    (s.Union, codes "\\/" ∷ (0x222A ∷ []) ∷ []) ∷  -- ∪
+    (s.Intersection, codes "/\\" ∷ (0x2229 ∷ []) ∷ []) ∷  -- ∩
+    (s.Difference, codes "\\" ∷ (0x2216 ∷ []) ∷ []) ∷  -- ∖
+    (s.Product, codes "**" ∷ (0x00D7 ∷ []) ∷ []) ∷  -- ×
+    (s.Lambda, codes "%" ∷ (0x03BB ∷ []) ∷ []) ∷  -- λ
+    (s.Bar, codes "|" ∷ (0x2223 ∷ []) ∷ []) ∷  -- ∣
     (s.LeftBrace, codes "{" ∷ []) ∷
     (s.RightBrace, codes "}" ∷ []) ∷
-    (s.EmptySet, codes "{}" ∷ (0x2205 ∷ []) ∷ []) ∷    -- ∅
-    (s.Integers, codes "INT" ∷ (0x2124 ∷ []) ∷ []) ∷    -- ℤ
-    (s.Naturals, codes "NAT" ∷ (0x2115 ∷ []) ∷ []) ∷    -- ℕ
-    (s.PositiveNaturals, codes "NAT1" ∷ (0x2115 ∷ 49 ∷ []) ∷ []) ∷    -- ℕ1
-    (s.PowerSet, codes "POW" ∷ (0x2119 ∷ []) ∷ []) ∷    -- ℙ
-    (s.NonemptyPowerSet, codes "POW1" ∷ (0x2119 ∷ 49 ∷ []) ∷ []) ∷    -- ℙ1
-    (s.QuantifiedUnion, codes "UNION" ∷ (0x22C3 ∷ []) ∷ []) ∷    -- ⋃
-    (s.QuantifiedIntersection, codes "INTER" ∷ (0x22C2 ∷ []) ∷ []) ∷    -- ⋂
+    (s.EmptySet, codes "{}" ∷ (0x2205 ∷ []) ∷ []) ∷  -- ∅
+    (s.Integers, codes "INT" ∷ (0x2124 ∷ []) ∷ []) ∷  -- ℤ
+    (s.Naturals, codes "NAT" ∷ (0x2115 ∷ []) ∷ []) ∷  -- ℕ
+    (s.PositiveNaturals, codes "NAT1" ∷ (0x2115 ∷ 49 ∷ []) ∷ []) ∷  -- ℕ1
+    (s.PowerSet, codes "POW" ∷ (0x2119 ∷ []) ∷ []) ∷  -- ℙ
+    (s.NonemptyPowerSet, codes "POW1" ∷ (0x2119 ∷ 49 ∷ []) ∷ []) ∷  -- ℙ1
+    (s.QuantifiedUnion, codes "UNION" ∷ (0x22C3 ∷ []) ∷ []) ∷  -- ⋃
+    (s.QuantifiedIntersection, codes "INTER" ∷ (0x22C2 ∷ []) ∷ []) ∷  -- ⋂
     (s.LeftParenthesis, codes "(" ∷ []) ∷
     (s.RightParenthesis, codes ")" ∷ []) ∷
     (s.LeftBracket, codes "[" ∷ []) ∷
     (s.RightBracket, codes "]" ∷ []) ∷
     (s.Comma, codes "," ∷ []) ∷
     -- arrows
-    (s.Relation, codes "<->" ∷ (0x2194 ∷ []) ∷ []) ∷    -- ↔
+    (s.Relation, codes "<->" ∷ (0x2194 ∷ []) ∷ []) ∷  -- ↔
     (s.TotalRelation, codes "<<->" ∷ (0xE100 ∷ []) ∷ []) ∷
     (s.SurjectiveRelation, codes "<->>" ∷ (0xE101 ∷ []) ∷ []) ∷
     (s.TotalSurjectiveRelation, codes "<<->>" ∷ (0xE102 ∷ []) ∷ []) ∷
-    (s.PartialFunction, codes "+->" ∷ (0x21F8 ∷ []) ∷ []) ∷    -- ⇸
-    (s.TotalFunction, codes "-->" ∷ (0x2192 ∷ []) ∷ []) ∷    -- →
-    (s.PartialInjection, codes ">+>" ∷ (0x2914 ∷ []) ∷ []) ∷    -- ⤔
-    (s.TotalInjection, codes ">->" ∷ (0x21A3 ∷ []) ∷ []) ∷    -- ↣
-    (s.PartialSurjection, codes "+->>" ∷ (0x2900 ∷ []) ∷ []) ∷    -- ⤀
-    (s.TotalSurjection, codes "-->>" ∷ (0x21A0 ∷ []) ∷ []) ∷    -- ↠
-    (s.Bijection, codes ">->>" ∷ (0x2916 ∷ []) ∷ []) ∷    -- ⤖
+    (s.PartialFunction, codes "+->" ∷ (0x21F8 ∷ []) ∷ []) ∷  -- ⇸
+    (s.TotalFunction, codes "-->" ∷ (0x2192 ∷ []) ∷ []) ∷  -- →
+    (s.PartialInjection, codes ">+>" ∷ (0x2914 ∷ []) ∷ []) ∷  -- ⤔
+    (s.TotalInjection, codes ">->" ∷ (0x21A3 ∷ []) ∷ []) ∷  -- ↣
+    (s.PartialSurjection, codes "+->>" ∷ (0x2900 ∷ []) ∷ []) ∷  -- ⤀
+    (s.TotalSurjection, codes "-->>" ∷ (0x21A0 ∷ []) ∷ []) ∷  -- ↠
+    (s.Bijection, codes ">->>" ∷ (0x2916 ∷ []) ∷ []) ∷  -- ⤖
     -- relation operators
     (s.ForwardComposition, codes ";" ∷ []) ∷
-    (s.BackwardComposition, codes "circ" ∷ (0x2218 ∷ []) ∷ []) ∷    -- ∘
-    (s.DomainRestriction, codes "<|" ∷ (0x25C1 ∷ []) ∷ []) ∷    -- ◁
-    (s.DomainSubtraction, codes "<<|" ∷ (0x2A64 ∷ []) ∷ []) ∷    -- ⩤
-    (s.RangeRestriction, codes "|>" ∷ (0x25B7 ∷ []) ∷ []) ∷    -- ▷
-    (s.RangeSubtraction, codes "|>>" ∷ (0x2A65 ∷ []) ∷ []) ∷    -- ⩥
+    (s.BackwardComposition, codes "circ" ∷ (0x2218 ∷ []) ∷ []) ∷  -- ∘
+    (s.DomainRestriction, codes "<|" ∷ (0x25C1 ∷ []) ∷ []) ∷  -- ◁
+    (s.DomainSubtraction, codes "<<|" ∷ (0x2A64 ∷ []) ∷ []) ∷  -- ⩤
+    (s.RangeRestriction, codes "|>" ∷ (0x25B7 ∷ []) ∷ []) ∷  -- ▷
+    (s.RangeSubtraction, codes "|>>" ∷ (0x2A65 ∷ []) ∷ []) ∷  -- ⩥
     (s.Override, codes "<+" ∷ (0xE103 ∷ []) ∷ []) ∷
-    (s.DirectProduct, codes "><" ∷ (0x2297 ∷ []) ∷ []) ∷    -- ⊗
-    (s.ParallelProduct, codes "||" ∷ (0x2225 ∷ []) ∷ []) ∷    -- ∥
-    (s.Inverse, codes "~" ∷ (0x223C ∷ []) ∷ []) ∷    -- ∼
+    (s.DirectProduct, codes "><" ∷ (0x2297 ∷ []) ∷ []) ∷  -- ⊗
+    (s.ParallelProduct, codes "||" ∷ (0x2225 ∷ []) ∷ []) ∷  -- ∥
+    (s.Inverse, codes "~" ∷ (0x223C ∷ []) ∷ []) ∷  -- ∼
     -- actions
-    (s.Becomes, codes ":=" ∷ (0x2254 ∷ []) ∷ []) ∷    -- ≔
-    (s.BecomesMember, codes "::" ∷ (58 ∷ 0x2208 ∷ []) ∷ []) ∷    -- :∈
-    (s.BecomesSuchThat, codes ":|" ∷ (58 ∷ 0x2223 ∷ []) ∷ []) ∷    -- :∣
+    (s.Becomes, codes ":=" ∷ (0x2254 ∷ []) ∷ []) ∷  -- ≔
+    (s.BecomesMember, codes "::" ∷ (58 ∷ 0x2208 ∷ []) ∷ []) ∷  -- :∈
+    (s.BecomesSuchThat, codes ":|" ∷ (58 ∷ 0x2223 ∷ []) ∷ []) ∷  -- :∣
     -- words of formulas
     (s.Booleans, codes "BOOL" ∷ []) ∷
     (s.TrueValue, codes "TRUE" ∷ []) ∷
@@ -133,6 +133,7 @@ signs =
     (s.Convergent, codes "convergent" ∷ []) ∷
     (s.Anticipated, codes "anticipated" ∷ []) ∷
     []
+
 -- the sign among these that a text spells
 abbrev pub spelled_among : List ℕ → List (Sign × List (List ℕ)) → Option Sign
 spelled_among w [] = None

@@ -7,4 +7,5 @@ mod signs;
 mod token;
 mod words;
 
+pub use lexer::tokens;
 pub use token::{LexFault, Sign, Token, TokenKind, Tokens};

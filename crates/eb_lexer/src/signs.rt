@@ -196,7 +196,6 @@ fn of_four(a: char, b: char, c: char, d: char) -> Option<Sign>
     }
 }
 
-
 /// The sign of one character.
 #[tactic(auto, unfolding(crate::specs::SignTables::one_signs), using(crate::proofs::TableLaws::in_four))]
 fn of_one(a: char) -> Option<Sign>

@@ -1,4 +1,4 @@
-use Rattle.std.proofs.Common.{arith, ◌≡◌, ◌∙◌, ap, ◌+◌, ◌*◌, ◌-◌, ◌<◌, drop, sym, ◌∷◌, get_or}
+use Rattle.std.proofs.Common.{arith, ◌≡◌, ◌∙◌, ap, ◌+◌, ◌*◌, ◌-◌, ◌<◌, drop, sym, ◌∷◌}
 use Rattle.std.proofs.lemmas.List.{drop_more}
 use Rattle.eb_lexer.proofs.Numbers.{number_on-grows, number_of-large}
 use Rattle.eb_lexer.specs.Tokens as spec

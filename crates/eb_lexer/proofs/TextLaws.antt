@@ -1,0 +1,159 @@
+-- The tokens of a text, from the left.
+use Rattle.std.proofs.Common.{◌≡◌, ◌∙◌, ℕ, ◌+◌, ◌≤◌, ◌<◌, List, [], ◌∷◌, ◌++◌, length, take, drop, refl, sym, ap, subst, arith}
+use Rattle.std.specs.Str.{chars, IsUtf8}
+use Rattle.std.proofs.lemmas.Str.{encodes-chars}
+use Rattle.std.proofs.lemmas.List.{take_at, drop_at, append-nil, length-append}
+use Rattle.eb_lexer.specs.declared.token.TokenKind.{TokenKind}
+use Rattle.eb_lexer.specs.declared.token.Token.{Token}
+use Rattle.eb_lexer.specs.Tokens.{Piece, blank, line, block, token, written, IsToken, IsFirst, Begins, size, sizes, tokens_at, IsTokens, IsBadAt}
+use Rattle.eb_lexer.specs.Lexing.{Step, stop, bad, passed, found, next}
+use Rattle.eb_lexer.proofs.Sizes.{size-append}
+use Rattle.eb_lexer.proofs.PieceLaws.{GapFirst, TokenFirst, NoneFirst, Holds, next_holds, first_same, not_empty}
+
+-- ---- one list of pieces
+
+same_begins : (ps : List Piece) (r s rest : List ℕ) → r ≡ s → Begins ps r rest → Begins ps s rest
+same_begins ps r s rest e h = subst (λ (z : List ℕ). Begins ps z rest) e h
+
+same_none : (p : Piece) (r s after : List ℕ) → r ≡ s → IsFirst p r after → IsFirst p s after
+same_none p r s after e h = subst (λ (z : List ℕ). IsFirst p z after) e h
+
+-- pieces up to places where none begins are the same pieces
+pub pieces_same : (ps qs : List Piece) (text r s : List ℕ) → Begins ps text r → Begins qs text s
+    → ((p : Piece) (after : List ℕ) → IsFirst p r after → ⊥) → ((p : Piece) (after : List ℕ) → IsFirst p s after → ⊥) → (ps ≡ qs) × (r ≡ s)
+pieces_same [] [] text r s p q none other = (refl, sym p ∙ q)
+pieces_same [] (y ∷ ys) text r s p q none other = absurd (none y q.0 (same_none y text r q.0 p q.1))
+pieces_same (x ∷ xs) [] text r s p q none other = absurd (other x p.0 (same_none x text s p.0 q p.1))
+pieces_same (x ∷ xs) (y ∷ ys) text r s p q none other =
+    let both = first_same x y text p.0 q.0 p.1 q.1 in
+    let first : x ≡ y = both.0 in
+    let more = pieces_same xs ys p.0 r s p.2 (same_begins ys q.0 p.0 s (sym both.1) q.2) none other in
+    let rest : xs ≡ ys = more.0 in
+    (cc, more.1)
+
+-- a text has one list of tokens
+pub one_reading : (ts us : List Token) (text : List ℕ) → IsTokens ts text → IsTokens us text → ts ≡ us
+one_reading ts us text h g =
+    let both = pieces_same h.pieces g.pieces (chars text) [] [] h.whole g.whole not_empty not_empty in
+    h.among ∙ ap (tokens_at 0) both.0 ∙ sym g.among
+
+-- a text with tokens has no bad place
+pub no_bad_place : (ts : List Token) (at : ℕ) (text : List ℕ) → IsTokens ts text → IsBadAt at text → ⊥
+no_bad_place ts at text h g =
+    let both = pieces_same h.pieces g.pieces (chars text) [] g.rest h.whole g.before not_empty g.none in
+    absurd (omega (arith, ap length both.1, g.some))
+
+-- there is one bad place at most
+pub one_bad_place : (a b : ℕ) (text : List ℕ) → IsBadAt a text → IsBadAt b text → a ≡ b
+one_bad_place a b text h g =
+    let both = pieces_same h.pieces g.pieces (chars text) h.rest g.rest h.before g.before h.none g.none in
+    h.place ∙ ap sizes both.0 ∙ sym g.place
+
+-- ---- what is read so far
+
+begins_more : (ps : List Piece) (p : Piece) (text mid rest : List ℕ) → Begins ps text mid → IsFirst p mid rest → Begins (ps ++ p ∷ []) text rest
+begins_more [] p text mid rest h f = (rest, same_none p mid text rest (sym h) f, refl)
+begins_more (x ∷ xs) p text mid rest h f = (h.0, h.1, begins_more xs p h.0 mid rest h.2 f)
+
+sizes_more : (ps : List Piece) (p : Piece) → sizes (ps ++ p ∷ []) ≡ sizes ps + size (written p)
+sizes_more [] p = omega arith
+sizes_more (x ∷ xs) p = omega (arith, sizes_more xs p)
+
+-- the tokens of pieces that begin later
+shift : (a b : ℕ) (ps : List Piece) → a ≡ b → tokens_at a ps ≡ tokens_at b ps
+shift a b ps e = ap (λ (n : ℕ). tokens_at n ps) e
+
+tokens_more : (at : ℕ) (ps : List Piece) (p : Piece) → tokens_at at (ps ++ p ∷ []) ≡ tokens_at at ps ++ tokens_at (at + sizes ps) (p ∷ [])
+tokens_more at [] p = shift at (at + 0) (p ∷ []) (omega arith)
+tokens_more at (blank c ∷ xs) p =
+    tokens_more (at + size (written (blank c))) xs p ∙ ap (λ z. tokens_at (at + size (written (blank c))) xs ++ z) (shift (at + size (written (blank c)) + sizes xs) (at + (size (written (blank c)) + sizes xs)) (p ∷ []) (omega arith))
+tokens_more at (line b ∷ xs) p =
+    tokens_more (at + size (written (line b))) xs p ∙ ap (λ z. tokens_at (at + size (written (line b))) xs ++ z) (shift (at + size (written (line b)) + sizes xs) (at + (size (written (line b)) + sizes xs)) (p ∷ []) (omega arith))
+tokens_more at (block b ∷ xs) p =
+    tokens_more (at + size (written (block b))) xs p ∙ ap (λ z. tokens_at (at + size (written (block b))) xs ++ z) (shift (at + size (written (block b)) + sizes xs) (at + (size (written (block b)) + sizes xs)) (p ∷ []) (omega arith))
+tokens_more at (token k w ∷ xs) p =
+    ap (λ z. record { kind = k; start = at; end = at + size w } ∷ z)
+    (tokens_more (at + size w) xs p ∙ ap (λ z. tokens_at (at + size w) xs ++ z) (shift (at + size w + sizes xs) (at + (size w + sizes xs)) (p ∷ []) (omega arith)))
+
+pub record ReadTo (ts : List Token) (at : ℕ) (text rest : List ℕ) : Type 0 where
+  pub pieces : List Piece
+  pub before : Begins pieces text rest
+  pub place : at ≡ sizes pieces
+  pub among : ts ≡ tokens_at 0 pieces
+
+pub read_none : (text : List ℕ) → ReadTo [] 0 text text
+read_none text = record { pieces = []; before = refl; place = refl; among = refl }
+
+front_is : (p : Piece) (text rest : List ℕ) (n : ℕ) → IsFirst p text rest → length (written p) ≡ n → (take n text ≡ written p) × (drop n text ≡ rest) × (n ≤ length text)
+front_is p text rest n h e =
+    (ap (take n) h.front ∙ take_at (written p) rest n e, ap (drop n) h.front ∙ drop_at (written p) rest n e, omega (arith, ap length h.front, length-append (written p) rest))
+
+some_written : (p : Piece) (text rest : List ℕ) → IsFirst p text rest → 0 < length (written p)
+some_written (blank c) text rest h = omega arith
+some_written (line b) text rest h = omega arith
+some_written (block b) text rest h = omega arith
+some_written (token k []) text rest h = let t : IsToken k [] rest = h.fits in absurd (let f = t.spelled in cc)
+some_written (token k (c ∷ cs)) text rest h = omega arith
+
+pub gap_read : (ts : List Token) (at n : ℕ) (text rest : List ℕ) → ReadTo ts at text rest → next rest ≡ passed n → (0 < n) × (n ≤ length rest) × ReadTo ts (at + size (take n rest)) text (drop n rest)
+gap_read ts at n text rest h e =
+    let g : GapFirst n rest = subst (λ (s : Step). Holds s rest) e (next_holds rest) in
+    let f = front_is g.piece rest g.rest n g.first g.count in
+    let some : 0 < length (written g.piece) = some_written g.piece rest g.rest g.first in
+    let bytes : size (take n rest) ≡ size (written g.piece) = ap size f.0 in (
+      omega (arith, g.count, some),
+      f.2,
+      record {
+        pieces = h.pieces ++ g.piece ∷ [];
+        before = begins_more h.pieces g.piece text rest (drop n rest) h.before (subst (λ (z : List ℕ). IsFirst g.piece rest z) (sym f.1) g.first);
+        place = omega (arith, h.place, bytes, sizes_more h.pieces g.piece);
+        among = h.among ∙ sym (tokens_more 0 h.pieces g.piece ∙ ap (λ z. tokens_at 0 h.pieces ++ z) (g.apart (0 + sizes h.pieces)) ∙ append-nil (tokens_at 0 h.pieces));
+      },
+    )
+
+pub token_read : (ts : List Token) (at n : ℕ) (k : TokenKind) (text rest : List ℕ) → ReadTo ts at text rest → next rest ≡ found k n
+    → (0 < n) × (n ≤ length rest) × ReadTo (ts ++ record { kind = k; start = at; end = at + size (take n rest) } ∷ []) (at + size (take n rest)) text (drop n rest)
+token_read ts at n k text rest h e =
+    let g : TokenFirst k n rest = subst (λ (s : Step). Holds s rest) e (next_holds rest) in
+    let p : Piece = token k g.w in
+    let f = front_is p rest g.rest n g.first g.count in
+    let some : 0 < length g.w = some_written p rest g.rest g.first in
+    let bytes : size (take n rest) ≡ size g.w = ap size f.0 in
+    let place : 0 + sizes h.pieces ≡ at = omega (arith, h.place) in (
+      omega (arith, g.count, some),
+      f.2,
+      record {
+        pieces = h.pieces ++ p ∷ [];
+        before = begins_more h.pieces p text rest (drop n rest) h.before (subst (λ (z : List ℕ). IsFirst p rest z) (sym f.1) g.first);
+        place = omega (arith, h.place, bytes, sizes_more h.pieces p);
+        among = ap (λ z. z ++ record { kind = k; start = at; end = at + size (take n rest) } ∷ []) h.among
+            ∙ ap (λ (b : ℕ). tokens_at 0 h.pieces ++ record { kind = k; start = at; end = at + b } ∷ []) bytes
+            ∙ ap (λ (a : ℕ). tokens_at 0 h.pieces ++ record { kind = k; start = a; end = a + size g.w } ∷ []) (sym place)
+            ∙ sym (tokens_more 0 h.pieces p);
+      },
+    )
+
+begins_size : (ps : List Piece) (text rest : List ℕ) → Begins ps text rest → sizes ps + size rest ≡ size text
+begins_size [] text rest h = omega (arith, ap size h)
+begins_size (p ∷ ps) text rest h =
+    omega (arith, begins_size ps h.0 rest h.2, ap size (h.1).front ∙ size-append (written p) h.0)
+
+pub read_size : (ts : List Token) (at : ℕ) (text rest : List ℕ) → ReadTo ts at text rest → at + size rest ≡ size text
+read_size ts at text rest h = omega (arith, h.place, begins_size h.pieces text rest h.before)
+
+pub text_size : (text : List ℕ) → IsUtf8 text → size (chars text) ≡ length text
+text_size text u = ap length (encodes-chars text u)
+
+pub is_whole : (ts : List Token) (at : ℕ) (text rest : List ℕ) → IsUtf8 text → ReadTo ts at (chars text) rest → next rest ≡ stop → IsTokens ts text
+is_whole ts at text rest u h e =
+    let end : rest ≡ [] = subst (λ (s : Step). Holds s rest) e (next_holds rest) in
+    record { utf8 = u; pieces = h.pieces; whole = subst (λ (z : List ℕ). Begins h.pieces (chars text) z) end h.before; among = h.among }
+
+pub is_bad : (ts : List Token) (at : ℕ) (text rest : List ℕ) → IsUtf8 text → ReadTo ts at (chars text) rest → next rest ≡ bad → IsBadAt at text
+is_bad ts at text rest u h e =
+    let g : NoneFirst rest = subst (λ (s : Step). Holds s rest) e (next_holds rest) in
+    record { utf8 = u; pieces = h.pieces; rest = rest; before = h.before; place = h.place; some = g.some; none = g.none }
+
+-- the place of what is read lies in the text
+pub read_within : (ts : List Token) (at : ℕ) (text rest : List ℕ) → IsUtf8 text → ReadTo ts at (chars text) rest → at ≤ length text
+read_within ts at text rest u h = omega (arith, read_size ts at (chars text) rest h, text_size text u)
