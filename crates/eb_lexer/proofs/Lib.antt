@@ -2,7 +2,9 @@ pub mod TableLaws
 pub mod Numbers
 pub mod Sizes
 pub mod Runs
+pub mod TokenOf
 pub mod SignLaws
 pub mod TokenLaws
+pub mod Spellings
 pub mod PieceLaws
 pub mod TextLaws

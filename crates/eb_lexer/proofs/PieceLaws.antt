@@ -7,7 +7,9 @@ use Rattle.std.specs.Char.{is_whitespace}
 use Rattle.std.proofs.lemmas.Bool.Decides.{nat_tests}
 use Rattle.std.proofs.lemmas.List.{length-append}
 use Rattle.eb_lexer.specs.declared.token.TokenKind.{TokenKind}
-use Rattle.eb_lexer.specs.Tokens.{token_of, is_lexeme, is_number, is_in_line, EndsLine, begins_close, has_close, begins_gap, Piece, blank, line, block, token, written, IsToken, Fits, IsFirst, tokens_at}
+use Rattle.eb_lexer.specs.Tokens.{is_number, is_in_line, EndsLine, begins_close, has_close, begins_gap, Piece, blank, line, block, token, written, IsToken, Fits, IsFirst, tokens_at}
+use Rattle.eb_lexer.proofs.TokenOf.{token_of, is_lexeme}
+use Rattle.eb_lexer.proofs.Spellings.{longest_of, token_from, none_spelled}
 use Rattle.eb_lexer.specs.Lexing.{Step, stop, bad, passed, found, next, solid, token_step, token_at, block_step, close_at}
 use Rattle.eb_lexer.proofs.Runs.{both_true, Stops, run_passes, run_exact}
 use Rattle.eb_lexer.proofs.TokenLaws.{run_stops, run_parts, IsLongest, Reads, token_at_reads}
@@ -110,9 +112,7 @@ only_tokens text g none (blank c) after h =
     cc
 only_tokens text g none (line body) after h = let f : begins_gap text ≡ true = ap begins_gap h.front in cc
 only_tokens text g none (block body) after h = let f : begins_gap text ≡ true = ap begins_gap h.front in cc
-only_tokens text g none (token k w) after h =
-    let t : IsToken k w after = h.fits in
-    none k w after h.front (record { spelled = t.spelled; longest = t.longest })
+only_tokens text g none (token k w) after h = none k w after h.front (longest_of k w after h.fits)
 
 token_holds : (text : List ℕ) (o : Option (TokenKind × ℕ)) → begins_gap text ≡ false → 0 < length text → Reads o text → Holds (token_step o) text
 token_holds text None g l h = record { some = l; none = only_tokens text g h.none }
@@ -120,7 +120,7 @@ token_holds text (Some x) g l h = record {
   w = h.w;
   rest = h.rest;
   count = h.count;
-  first = record { front = h.parts; fits = record { spelled = h.first.spelled; apart = ap begins_gap (sym h.parts) ∙ g; longest = h.first.longest } };
+  first = record { front = h.parts; fits = token_from x.0 h.w h.rest h.first (ap begins_gap (sym h.parts) ∙ g) };
 }
 
 -- ---- comments
@@ -239,19 +239,19 @@ token_lexeme k w e = ap (λ (o : Option TokenKind). is_some o || is_number w) e
 tokens_same : (k l : TokenKind) (v w r s : List ℕ) → v ++ r ≡ w ++ s → IsToken k v r → IsToken l w s → (t u : Bool) → nat_lt (length v) (length w) ≡ t → nat_lt (length w) (length v) ≡ u
     → (token k v ≡ token l w) × (r ≡ s)
 tokens_same k l v w r s e p q true u t o =
-    let no : is_lexeme w ≡ false = p.longest w s e (grind (arith, nat_tests)) in
-    let yes = token_lexeme l w q.spelled in
+    let no : is_lexeme w ≡ false = (longest_of k v r p).longest w s e (grind (arith, nat_tests)) in
+    let yes = token_lexeme l w (longest_of l w s q).spelled in
     absurd cc
 tokens_same k l v w r s e p q false true t o =
-    let no : is_lexeme v ≡ false = q.longest v r (sym e) (grind (arith, nat_tests)) in
-    let yes = token_lexeme k v p.spelled in
+    let no : is_lexeme v ≡ false = (longest_of l w s q).longest v r (sym e) (grind (arith, nat_tests)) in
+    let yes = token_lexeme k v (longest_of k v r p).spelled in
     absurd cc
 tokens_same k l v w r s e p q false false t o =
     let count : length v ≡ length w = grind (arith, nat_tests) in
     let both = same_length v w r s e count in
     let text : v ≡ w = both.0 in
-    let one : token_of v ≡ Some k = p.spelled in
-    let two : token_of w ≡ Some l = q.spelled in
+    let one : token_of v ≡ Some k = (longest_of k v r p).spelled in
+    let two : token_of w ≡ Some l = (longest_of l w s q).spelled in
     let kinds : k ≡ l = cc in
     (cc, both.1)
 
@@ -322,5 +322,5 @@ pub not_empty : (p : Piece) (after : List ℕ) → IsFirst p [] after → ⊥
 not_empty (blank c) after h = let f = h.front in cc
 not_empty (line b) after h = let f = h.front in cc
 not_empty (block b) after h = let f = h.front in cc
-not_empty (token k []) after h = let t : IsToken k [] after = h.fits in let f = t.spelled in cc
+not_empty (token k []) after h = none_spelled k after h.fits
 not_empty (token k (c ∷ cs)) after h = let f = h.front in cc

@@ -10,7 +10,7 @@ use Rattle.unicode_ident.proofs.Computing.{unicode_ident}
 use Rattle.eb_lexer.specs.declared.token.Sign.{Sign}
 use Rattle.eb_lexer.specs.Signs.{signs, sign_of, spelled_among}
 use Rattle.eb_lexer.specs.SignTables.{sign_in, words, one_signs, twos, threes, fours, fives, operator_words, formula_words, unit_words, event_words, ascii_ones, logic_ones, set_ones, relation_ones}
-use Rattle.eb_lexer.specs.Tokens.{starts_word}
+use Rattle.eb_lexer.specs.Tokens.{starts_word, continues_word, is_identifier, is_digit}
 use Rattle.std.proofs.lemmas.List.{length-take-le}
 use Rattle.eb_lexer.specs.Lexing.{reserved, level, up_to_one, up_to_two, up_to_three, up_to_four, sign_at}
 use Rattle.eb_lexer.proofs.TableLaws.{or_in, sign_in_append}
@@ -343,3 +343,32 @@ none_case a rest None h u e = λ m l w. any_length a rest m (nat_le m 5) refl h 
 
 pub sign_none : (a : ℕ) (rest : List ℕ) → starts_word a ≡ false → sign_at (a ∷ rest) ≡ None → (m : ℕ) → 0 < m → m ≤ length (a ∷ rest) → sign_of (take m (a ∷ rest)) ≡ None
 sign_none a rest h e = none_case a rest (sign_at (a ∷ rest)) h (up_five a rest h) e
+
+-- ---- what a sign's spelling looks like
+
+words_identifiers : list_all (λ (row : List ℕ × Sign). is_identifier row.0) words ≡ true
+unfolding words operator_words formula_words unit_words event_words starts_word continues_word unicode_ident
+words_identifiers = refl
+
+-- neither a digit nor `@`
+abbrev begins_symbol : List ℕ → Bool
+begins_symbol [] = true
+begins_symbol (c ∷ cs) = not (is_digit c || (c == 64))
+
+symbols_apart : list_all (λ (row : List ℕ × Sign). begins_symbol row.0) symbols ≡ true
+unfolding symbols one_signs twos threes fours fives ascii_ones logic_ones set_ones relation_ones
+symbols_apart = refl
+
+passes_or_none : (p : List ℕ → Bool) (rows : List (List ℕ × Sign)) (w : List ℕ) (s : Sign) (t : Bool) → p w ≡ t → list_all (λ (row : List ℕ × Sign). p row.0) rows ≡ true → sign_in w rows ≡ Some s → p w ≡ true
+passes_or_none p rows w s true h all e = h
+passes_or_none p rows w s false h all e = let none : sign_in w rows ≡ None = absent p rows w all h in absurd cc
+
+pub reserved_identifier : (c : ℕ) (cs : List ℕ) (s : Sign) → starts_word c ≡ true → sign_of (c ∷ cs) ≡ Some s → is_identifier (c ∷ cs) ≡ true
+reserved_identifier c cs s h e = passes_or_none is_identifier words (c ∷ cs) s (is_identifier (c ∷ cs)) refl words_identifiers (sym (word_sign c cs h) ∙ e)
+
+pub symbol_apart : (c : ℕ) (cs : List ℕ) (s : Sign) → starts_word c ≡ false → sign_of (c ∷ cs) ≡ Some s → not (is_digit c || (c == 64)) ≡ true
+symbol_apart c cs s h e = passes_or_none begins_symbol symbols (c ∷ cs) s (begins_symbol (c ∷ cs)) refl symbols_apart (sym (symbol_sign c cs h) ∙ e)
+
+pub no_empty_sign : sign_of [] ≡ None
+unfolding sign_of signs
+no_empty_sign = refl

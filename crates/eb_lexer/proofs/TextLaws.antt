@@ -1,13 +1,14 @@
 -- The tokens of a text, from the left.
-use Rattle.std.proofs.Common.{◌≡◌, ◌∙◌, ℕ, ◌+◌, ◌≤◌, ◌<◌, List, [], ◌∷◌, ◌++◌, length, take, drop, refl, sym, ap, subst, arith}
-use Rattle.std.specs.Str.{chars, IsUtf8}
-use Rattle.std.proofs.lemmas.Str.{encodes-chars}
+use Rattle.std.proofs.Common.{◌≡◌, ◌∙◌, ℕ, ◌+◌, ◌≤◌, ◌<◌, List, [], ◌∷◌, ◌++◌, length, take, drop, refl, sym, ap, subst, arith, append_assoc, ◌-◌}
+use Rattle.std.specs.Str.{chars, IsUtf8, encode_utf8_all}
+use Rattle.std.proofs.lemmas.Str.{encodes-chars, encodes-append, length-le-encodes}
 use Rattle.std.proofs.lemmas.List.{take_at, drop_at, append-nil, length-append}
 use Rattle.eb_lexer.specs.declared.token.TokenKind.{TokenKind}
 use Rattle.eb_lexer.specs.declared.token.Token.{Token}
-use Rattle.eb_lexer.specs.Tokens.{Piece, blank, line, block, token, written, IsToken, IsFirst, Begins, size, sizes, tokens_at, IsTokens, IsBadAt}
+use Rattle.eb_lexer.specs.Tokens.{Piece, blank, line, block, token, written, IsToken, IsFirst, Begins, size, sizes, tokens_at, IsTokens, IsBadAt, LieFrom, IsAtPlace, Spells}
 use Rattle.eb_lexer.specs.Lexing.{Step, stop, bad, passed, found, next}
 use Rattle.eb_lexer.proofs.Sizes.{size-append}
+use Rattle.eb_lexer.proofs.Spellings.{none_spelled}
 use Rattle.eb_lexer.proofs.PieceLaws.{GapFirst, TokenFirst, NoneFirst, Holds, next_holds, first_same, not_empty}
 
 -- ---- one list of pieces
@@ -92,7 +93,7 @@ some_written : (p : Piece) (text rest : List ℕ) → IsFirst p text rest → 0 
 some_written (blank c) text rest h = omega arith
 some_written (line b) text rest h = omega arith
 some_written (block b) text rest h = omega arith
-some_written (token k []) text rest h = let t : IsToken k [] rest = h.fits in absurd (let f = t.spelled in cc)
+some_written (token k []) text rest h = absurd (none_spelled k rest h.fits)
 some_written (token k (c ∷ cs)) text rest h = omega arith
 
 pub gap_read : (ts : List Token) (at n : ℕ) (text rest : List ℕ) → ReadTo ts at text rest → next rest ≡ passed n → (0 < n) × (n ≤ length rest) × ReadTo ts (at + size (take n rest)) text (drop n rest)
@@ -157,3 +158,55 @@ is_bad ts at text rest u h e =
 -- the place of what is read lies in the text
 pub read_within : (ts : List Token) (at : ℕ) (text rest : List ℕ) → IsUtf8 text → ReadTo ts at (chars text) rest → at ≤ length text
 read_within ts at text rest u h = omega (arith, read_size ts at (chars text) rest h, text_size text u)
+
+-- ---- the places of tokens
+
+part_at : (front w rest text : List ℕ) (at n : ℕ) → text ≡ encode_utf8_all (front ++ (w ++ rest)) → at ≡ size front → n ≡ size w → take n (drop at text) ≡ encode_utf8_all w
+part_at front w rest text at n e a l =
+    let bytes : text ≡ encode_utf8_all front ++ (encode_utf8_all w ++ encode_utf8_all rest) =
+    e ∙ encodes-append front (w ++ rest) ∙ ap (λ (z : List ℕ). encode_utf8_all front ++ z) (encodes-append w rest) in
+    ap (λ (z : List ℕ). take n (drop at z)) bytes
+    ∙ ap (take n) (drop_at (encode_utf8_all front) (encode_utf8_all w ++ encode_utf8_all rest) at (sym a))
+    ∙ take_at (encode_utf8_all w) (encode_utf8_all rest) n (sym l)
+
+lie_sooner : (a b : ℕ) (text : List ℕ) (ts : List Token) → a ≤ b → LieFrom b text ts → LieFrom a text ts
+lie_sooner a b text [] l h = omega arith
+lie_sooner a b text (t ∷ ts) l h = (omega (arith, h.0), h.1, h.2, h.3)
+
+some_size : (c : ℕ) (cs : List ℕ) → 0 < size (c ∷ cs)
+some_size c cs = omega (arith, length-le-encodes (c ∷ cs))
+
+-- behind one piece
+later_lie : (p : Piece) (ps : List Piece) (front rest mid text : List ℕ) (at : ℕ) → text ≡ encode_utf8_all (front ++ rest) → at ≡ size front → IsFirst p rest mid
+    → ((f r t : List ℕ) (n : ℕ) → t ≡ encode_utf8_all (f ++ r) → n ≡ size f → Begins ps r [] → LieFrom n t (tokens_at n ps))
+    → Begins ps mid [] → LieFrom (at + size (written p)) text (tokens_at (at + size (written p)) ps)
+later_lie p ps front rest mid text at e a h more b =
+    more (front ++ written p) mid text (at + size (written p))
+    (e ∙ ap (λ (z : List ℕ). encode_utf8_all (front ++ z)) h.front ∙ ap encode_utf8_all (sym (append_assoc front (written p) mid)))
+    (omega (arith, a, size-append front (written p))) b
+
+-- a piece that is no token
+lie_after : (p : Piece) (ps : List Piece) (front rest mid text : List ℕ) (at : ℕ) → text ≡ encode_utf8_all (front ++ rest) → at ≡ size front → IsFirst p rest mid
+    → ((f r t : List ℕ) (n : ℕ) → t ≡ encode_utf8_all (f ++ r) → n ≡ size f → Begins ps r [] → LieFrom n t (tokens_at n ps))
+    → Begins ps mid [] → LieFrom at text (tokens_at (at + size (written p)) ps)
+lie_after p ps front rest mid text at e a h more b = lie_sooner at (at + size (written p)) text (tokens_at (at + size (written p)) ps) (omega arith) (later_lie p ps front rest mid text at e a h more b)
+
+lie_pieces : (ps : List Piece) (front rest text : List ℕ) (at : ℕ) → text ≡ encode_utf8_all (front ++ rest) → at ≡ size front → Begins ps rest [] → LieFrom at text (tokens_at at ps)
+lie_pieces [] front rest text at e a h = omega (arith, a, ap length e, size-append front rest)
+lie_pieces (blank c ∷ ps) front rest text at e a h = lie_after (blank c) ps front rest h.0 text at e a h.1 (lie_pieces ps) h.2
+lie_pieces (line b ∷ ps) front rest text at e a h = lie_after (line b) ps front rest h.0 text at e a h.1 (lie_pieces ps) h.2
+lie_pieces (block b ∷ ps) front rest text at e a h = lie_after (block b) ps front rest h.0 text at e a h.1 (lie_pieces ps) h.2
+lie_pieces (token k [] ∷ ps) front rest text at e a h = absurd (none_spelled k h.0 (h.1).fits)
+lie_pieces (token k (c ∷ cs) ∷ ps) front rest text at e a h =
+    let w : List ℕ = c ∷ cs in
+    let t : IsToken k w h.0 = (h.1).fits in
+    let whole : text ≡ encode_utf8_all (front ++ (w ++ h.0)) = e ∙ ap (λ (z : List ℕ). encode_utf8_all (front ++ z)) (h.1).front in (
+      omega arith,
+      omega (arith, some_size c cs),
+      record { spelling = w; spelled = t.spelled; slice = part_at front w h.0 text at (at + size w - at) whole a (omega arith) },
+      later_lie (token k w) ps front rest h.0 text at e a h.1 (lie_pieces ps) h.2,
+    )
+
+pub tokens_lie : (ts : List Token) (text : List ℕ) → IsTokens ts text → LieFrom 0 text ts
+tokens_lie ts text h =
+    subst (LieFrom 0 text) (sym h.among) (lie_pieces h.pieces [] (chars text) text 0 (sym (encodes-chars text h.utf8)) refl h.whole)

@@ -14,7 +14,8 @@ use Rattle.eb_lexer.specs.declared.token.Sign.{Sign}
 use Rattle.eb_lexer.specs.declared.token.TokenKind.{TokenKind}
 use Rattle.eb_lexer.specs.declared.token.TokenKind.TheVariants as kind
 use Rattle.eb_lexer.specs.Signs.{sign_of}
-use Rattle.eb_lexer.specs.Tokens.{starts_word, continues_word, continues_label, is_digit, is_number, is_lexeme, is_sign_letter, number_on, number_token, label_token, word_token, token_of}
+use Rattle.eb_lexer.specs.Tokens.{starts_word, continues_word, continues_label, is_digit, is_number, is_sign_letter, number_on}
+use Rattle.eb_lexer.proofs.TokenOf.{is_lexeme, number_token, label_token, word_token, token_of}
 use Rattle.eb_lexer.specs.Lexing.{token_at, word_at, word_step, number_at, number_of, label_at, sign_at, reserved}
 use Rattle.eb_lexer.proofs.Numbers.{number_of-large, number_of-small}
 use Rattle.eb_lexer.proofs.Runs.{Stops, take_run, run_passes, run_exact}
@@ -86,16 +87,16 @@ pub letter_no_digit : (c : ℕ) → starts_word c ≡ true → is_digit c ≡ fa
 unfolding starts_word
 letter_no_digit c h = digit_case c (is_digit c) refl h
 
-token_word : (c : ℕ) (cs : List ℕ) → starts_word c ≡ true → token_of (c ∷ cs) ≡ word_token (c ∷ take_while continues_word cs) (drop (length (take_while continues_word cs)) cs) (sign_of (c ∷ take_while continues_word cs))
+pub token_word : (c : ℕ) (cs : List ℕ) → starts_word c ≡ true → token_of (c ∷ cs) ≡ word_token (c ∷ take_while continues_word cs) (drop (length (take_while continues_word cs)) cs) (sign_of (c ∷ take_while continues_word cs))
 token_word c cs h = rw h refl
 
-token_number : (c : ℕ) (cs : List ℕ) → starts_word c ≡ false → is_digit c ≡ true → token_of (c ∷ cs) ≡ number_token (c ∷ cs)
+pub token_number : (c : ℕ) (cs : List ℕ) → starts_word c ≡ false → is_digit c ≡ true → token_of (c ∷ cs) ≡ number_token (c ∷ cs)
 token_number c cs h d = rw (h, d) refl
 
-token_label : (cs : List ℕ) → starts_word 64 ≡ false → token_of (64 ∷ cs) ≡ label_token cs
+pub token_label : (cs : List ℕ) → starts_word 64 ≡ false → token_of (64 ∷ cs) ≡ label_token cs
 token_label cs h = rw h refl
 
-token_sign : (c : ℕ) (cs : List ℕ) → starts_word c ≡ false → is_digit c ≡ false → (c == 64) ≡ false → token_of (c ∷ cs) ≡ option_map kind.Sign (sign_of (c ∷ cs))
+pub token_sign : (c : ℕ) (cs : List ℕ) → starts_word c ≡ false → is_digit c ≡ false → (c == 64) ≡ false → token_of (c ∷ cs) ≡ option_map kind.Sign (sign_of (c ∷ cs))
 token_sign c cs h d a = rw (h, d, a) refl
 
 -- no lexeme
@@ -104,11 +105,11 @@ no_lexeme w e n = rw (e, n) refl
 
 -- ---- words
 
-number_head : (c : ℕ) (cs : List ℕ) → is_digit c ≡ false → is_number (c ∷ cs) ≡ false
+pub number_head : (c : ℕ) (cs : List ℕ) → is_digit c ≡ false → is_number (c ∷ cs) ≡ false
 number_head c cs h = rw h refl
 
 -- a word and more behind it
-word_reads : (c : ℕ) (w u : List ℕ) → starts_word c ≡ true → list_all continues_word w ≡ true → Stops continues_word u → token_of (c ∷ (w ++ u)) ≡ word_token (c ∷ w) u (sign_of (c ∷ w))
+pub word_reads : (c : ℕ) (w u : List ℕ) → starts_word c ≡ true → list_all continues_word w ≡ true → Stops continues_word u → token_of (c ∷ (w ++ u)) ≡ word_token (c ∷ w) u (sign_of (c ∷ w))
 word_reads c w u h all stops =
     let run : take_while continues_word (w ++ u) ≡ w = run_exact continues_word w u all stops in
     token_word c (w ++ u) h ∙ rw (run, drop_at w u (length w) refl) refl
@@ -257,7 +258,7 @@ number_at_is c cs d =
     ap (λ (z : List ℕ). number_result (take_while is_digit (c ∷ cs)) (number_of z)) (take_run is_digit (c ∷ cs))
     ∙ ap (λ (z : List ℕ). number_result z (number_of z)) run
 
-small_number : (ds : List ℕ) → is_number ds ≡ true → number_on 0 ds ≤ 4611686018427387904 → number_token ds ≡ Some (kind.Number (pos (number_on 0 ds)))
+pub small_number : (ds : List ℕ) → is_number ds ≡ true → number_on 0 ds ≤ 4611686018427387904 → number_token ds ≡ Some (kind.Number (pos (number_on 0 ds)))
 small_number ds n h = let t : nat_le (number_on 0 ds) 4611686018427387904 ≡ true = grind (arith, nat_tests) in rw (n, t) refl
 
 large_number : (ds : List ℕ) → 4611686018427387904 < number_on 0 ds → number_token ds ≡ None

@@ -1,6 +1,6 @@
 -- The tokens of a text. A text is parted into white space, comments and tokens, and each token is the longest one at its place.
 -- All of this speaks of characters; a token's place counts bytes.
-use Rattle.std.specs.Prelude.{◌≡◌, ℕ, ◌+◌, ◌*◌, ◌-◌, ◌<◌, Bool, true, false, not, ◌&&◌, ◌||◌, ◌==◌, nat_le, List, [], ◌∷◌, ◌++◌, length, drop, take_while, pos, Option, Some, None, if◌then◌else◌, ⊤}
+use Rattle.std.specs.Prelude.{◌≡◌, ℕ, ◌+◌, ◌*◌, ◌-◌, ◌<◌, ◌≤◌, ◌⊎◌, Bool, true, false, not, ◌&&◌, ◌||◌, ◌==◌, nat_le, List, [], ◌∷◌, ◌++◌, length, take, drop, pos, None, Some, ⊤}
 use Rattle.std.specs.List.{list_all}
 use Rattle.std.specs.Option.{is_some, option_map}
 use Rattle.std.specs.Char.{is_whitespace}
@@ -38,42 +38,32 @@ abbrev pub number_on : ℕ → List ℕ → ℕ
 number_on n [] = n
 number_on n (d ∷ ds) = number_on (10 * n + (d - 48)) ds
 
+-- an identifier: a character that starts it, and those that go on
+abbrev pub is_identifier : List ℕ → Bool
+is_identifier [] = false
+is_identifier (c ∷ cs) = starts_word c && list_all continues_word cs
+
+-- one or more characters of a label
+abbrev pub is_label_text : List ℕ → Bool
+is_label_text [] = false
+is_label_text (c ∷ cs) = list_all continues_label (c ∷ cs)
+
 -- one or more digits
 abbrev pub is_number : List ℕ → Bool
 is_number [] = false
 is_number (d ∷ ds) = list_all is_digit (d ∷ ds)
 
--- digits are a token up to 2 ^ 62
-abbrev pub number_token : List ℕ → Option TokenKind
-number_token ds = if is_number ds && nat_le (number_on 0 ds) 4611686018427387904 then Some (kind.Number (pos (number_on 0 ds))) else None
+-- these characters write the token. A word that a sign is spelled with is reserved: it is no name, and never primed
+abbrev pub Spells : TokenKind → List ℕ → Type 0
+Spells (kind.Word name) w = (is_identifier w ≡ true) × (sign_of w ≡ None) × (name ≡ encode_utf8_all w)
+Spells (kind.Primed name) w = (v : List ℕ) × (w ≡ v ++ 39 ∷ []) × (is_identifier v ≡ true) × (sign_of v ≡ None) × (name ≡ encode_utf8_all v)
+Spells (kind.Label name) w = (v : List ℕ) × (w ≡ 64 ∷ v) × (is_label_text v ≡ true) × (name ≡ encode_utf8_all v)
+Spells (kind.Number n) w = (is_number w ≡ true) × (number_on 0 w ≤ 4611686018427387904) × (n ≡ pos (number_on 0 w))
+Spells (kind.Sign s) w = sign_of w ≡ Some s
 
--- what stands behind an `@`
-abbrev pub label_token : List ℕ → Option TokenKind
-label_token [] = None
-label_token (c ∷ cs) = if list_all continues_label (c ∷ cs) then Some (kind.Label (encode_utf8_all (c ∷ cs))) else None
-
--- an identifier's characters, what is left behind them, and the sign that they spell: a reserved word is a sign and is never primed
-abbrev pub word_token : List ℕ → List ℕ → Option Sign → Option TokenKind
-word_token w [] (Some s) = Some (kind.Sign s)
-word_token w [] None = Some (kind.Word (encode_utf8_all w))
-word_token w (q ∷ []) (Some s) = None
-word_token w (q ∷ []) None = if q == 39 then Some (kind.Primed (encode_utf8_all w)) else None
-word_token w (q ∷ r ∷ rs) (Some s) = None
-word_token w (q ∷ r ∷ rs) None = None
-
--- the token that a whole text writes, which its first character tells apart
-abbrev pub token_of : List ℕ → Option TokenKind
-token_of [] = None
-token_of (c ∷ cs) =
-    let more = take_while continues_word cs in
-    if starts_word c then word_token (c ∷ more) (drop (length more) cs) (sign_of (c ∷ more))
-    else (if is_digit c then number_token (c ∷ cs)
-    else (if c == 64 then label_token cs
-    else option_map kind.Sign (sign_of (c ∷ cs))))
-
--- a token, or a number too large for one
-abbrev pub is_lexeme : List ℕ → Bool
-is_lexeme w = is_some (token_of w) || is_number w
+-- a token is written so, or it is a number that may be too large for one
+abbrev pub IsLexeme : List ℕ → Type 0
+IsLexeme w = ((k : TokenKind) × Spells k w) ⊎ (is_number w ≡ true)
 
 -- `//` or `/*`
 abbrev pub begins_comment : List ℕ → Bool
@@ -121,9 +111,9 @@ written (token k w) = w
 
 -- these characters write the token, neither white space nor a comment begins with them, and no longer lexeme does
 pub record IsToken (k : TokenKind) (w rest : List ℕ) : Type 0 where
-  pub spelled : token_of w ≡ Some k
+  pub spelled : Spells k w
   pub apart : begins_gap (w ++ rest) ≡ false
-  pub longest : (longer after : List ℕ) → w ++ rest ≡ longer ++ after → length w < length longer → is_lexeme longer ≡ false
+  pub longest : (longer after : List ℕ) → w ++ rest ≡ longer ++ after → length w < length longer → IsLexeme longer → ⊥
 
 -- the piece may stand before the rest
 abbrev pub Fits : Piece → List ℕ → Type 0
@@ -180,3 +170,14 @@ abbrev pub IsFaultOf : List ℕ → LexFault → Type 0
 IsFaultOf text fault.NotUtf8 = IsUtf8 text → ⊥
 IsFaultOf text (fault.BadToken at) = IsBadAt at text
 IsFaultOf text fault.Memory = ⊤
+
+-- some characters that write the token, at its place in the text
+pub record IsAtPlace (t : Token) (text : List ℕ) : Type 0 where
+  pub spelling : List ℕ
+  pub spelled : Spells t.kind spelling
+  pub slice : take (t.end - t.start) (drop t.start text) ≡ encode_utf8_all spelling
+
+-- the tokens lie in the text one behind another, none before this byte
+abbrev pub LieFrom : ℕ → List ℕ → List Token → Type 0
+LieFrom at text [] = at ≤ length text
+LieFrom at text (t ∷ ts) = (at ≤ t.start) × (t.start < t.end) × IsAtPlace t text × LieFrom t.end text ts
