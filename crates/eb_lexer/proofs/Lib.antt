@@ -1,9 +1,10 @@
-pub mod TableLaws
+pub mod Bools
+pub mod Runs
 pub mod Numbers
 pub mod Sizes
-pub mod Runs
-pub mod TokenOf
+pub mod TableLaws
 pub mod SignLaws
+pub mod TokenOf
 pub mod TokenLaws
 pub mod Spellings
 pub mod PieceLaws

@@ -11,7 +11,8 @@ use Rattle.eb_lexer.specs.Tokens.{is_number, is_in_line, EndsLine, begins_close,
 use Rattle.eb_lexer.proofs.TokenOf.{token_of, is_lexeme}
 use Rattle.eb_lexer.proofs.Spellings.{longest_of, token_from, none_spelled}
 use Rattle.eb_lexer.specs.Lexing.{Step, stop, bad, passed, found, next, solid, token_step, token_at, block_step, close_at}
-use Rattle.eb_lexer.proofs.Runs.{both_true, Stops, run_passes, run_exact}
+use Rattle.eb_lexer.proofs.Bools.{is_same, and_false, either_false, both_true}
+use Rattle.eb_lexer.proofs.Runs.{Stops, run_passes, run_exact}
 use Rattle.eb_lexer.proofs.TokenLaws.{run_stops, run_parts, IsLongest, Reads, token_at_reads}
 
 -- ---- where a comment is closed
@@ -22,9 +23,6 @@ record Closes (t : List ℕ) (n : ℕ) : Type 0 where
   pub parts : t ≡ body ++ 42 ∷ 47 ∷ rest
   pub count : length body ≡ n
   pub before : has_close body ≡ false
-
-is_same : (a b : ℕ) → (a == b) ≡ true → a ≡ b
-is_same a b h = grind (arith, nat_tests)
 
 -- a part of what doesn't begin so doesn't either
 begins_part : (c : ℕ) (body rest : List ℕ) → begins_close (c ∷ (body ++ rest)) ≡ false → begins_close (c ∷ body) ≡ false
@@ -55,14 +53,6 @@ closes_case c cs n false h more e = closes_later c cs n (close_at cs) h more e
 close_found : (t : List ℕ) (n : ℕ) → close_at t ≡ Some n → Closes t n
 close_found [] n e = absurd cc
 close_found (c ∷ cs) n e = closes_case c cs n (begins_close (c ∷ cs)) refl (close_found cs) e
-
-and_false : (b : Bool) → (b && false) ≡ false
-and_false true = refl
-and_false false = refl
-
-either_false : (a b : Bool) → (a || b) ≡ false → (a ≡ false) × (b ≡ false)
-either_false true b h = absurd cc
-either_false false b h = (refl, h)
 
 begins_whole : (c : ℕ) (body rest : List ℕ) → begins_close (c ∷ body) ≡ false → begins_close (c ∷ (body ++ 42 ∷ 47 ∷ rest)) ≡ false
 begins_whole c [] rest h = and_false (c == 42)

@@ -14,7 +14,7 @@ use Rattle.eb_lexer.specs.Tokens.{starts_word, continues_word, is_identifier, is
 use Rattle.std.proofs.lemmas.List.{length-take-le}
 use Rattle.eb_lexer.specs.Lexing.{reserved, level, up_to_one, up_to_two, up_to_three, up_to_four, sign_at}
 use Rattle.eb_lexer.proofs.TableLaws.{or_in, sign_in_append}
-use Rattle.eb_lexer.proofs.Runs.{both_true}
+use Rattle.eb_lexer.proofs.Bools.{both_true}
 
 -- ---- the table of signs as a list of pairs
 

@@ -13,7 +13,8 @@ use Rattle.eb_lexer.specs.declared.token.TokenKind.TheVariants as kind
 use Rattle.eb_lexer.specs.Signs.{sign_of}
 use Rattle.eb_lexer.specs.Tokens.{starts_word, continues_word, continues_label, is_digit, is_identifier, is_label_text, is_number, number_on, Spells, IsLexeme, IsToken, begins_gap}
 use Rattle.eb_lexer.proofs.TokenOf.{number_token, label_token, word_token, token_of, is_lexeme}
-use Rattle.eb_lexer.proofs.Runs.{both_true, Stops, run_passes}
+use Rattle.eb_lexer.proofs.Bools.{or_true, not_either, both_true}
+use Rattle.eb_lexer.proofs.Runs.{Stops, run_passes}
 use Rattle.eb_lexer.proofs.SignLaws.{reserved_identifier, symbol_apart, no_empty_sign}
 use Rattle.eb_lexer.proofs.TokenLaws.{IsLongest, run_parts, letter_no_digit, token_number, token_label, token_sign, word_reads, token_word, small_number}
 
@@ -55,11 +56,6 @@ number_spelled [] h small = absurd cc
 number_spelled (c ∷ cs) h small =
     let parts = both_true (is_digit c) (list_all is_digit cs) h in
     token_number c cs (digit_no_word c (starts_word c) refl parts.0) parts.0 ∙ small_number (c ∷ cs) h small
-
-not_either : (a b : Bool) → not (a || b) ≡ true → (a ≡ false) × (b ≡ false)
-not_either false false h = (refl, refl)
-not_either false true h = absurd cc
-not_either true b h = absurd cc
 
 sign_spelled_at : (c : ℕ) (cs : List ℕ) (s : Sign) (t : Bool) → starts_word c ≡ t → sign_of (c ∷ cs) ≡ Some s → token_of (c ∷ cs) ≡ Some (kind.Sign s)
 sign_spelled_at c cs s true h e =
@@ -147,10 +143,6 @@ spells_it k (c ∷ cs) e = spells_at c cs k (starts_word c) (is_digit c) (c == 6
 some_is : (w : List ℕ) (o : Option TokenKind) → token_of w ≡ o → (is_some o || is_number w) ≡ true → IsLexeme w
 some_is w (Some k) h e = inl (k, spells_it k w h)
 some_is w None h e = inr e
-
-or_true : (b : Bool) → (b || true) ≡ true
-or_true true = refl
-or_true false = refl
 
 lexeme_is : (w : List ℕ) → IsLexeme w → is_lexeme w ≡ true
 lexeme_is w (inl h) = ap (λ (o : Option TokenKind). is_some o || is_number w) (token_is h.0 w h.1)

@@ -6,7 +6,9 @@ use Rattle.std.proofs.lemmas.List.{take_at, drop_at, append-nil, length-append}
 use Rattle.eb_lexer.specs.declared.token.TokenKind.{TokenKind}
 use Rattle.eb_lexer.specs.declared.token.Token.{Token}
 use Rattle.eb_lexer.specs.Tokens.{Piece, blank, line, block, token, written, IsToken, IsFirst, Begins, size, sizes, tokens_at, IsTokens, IsBadAt, LieFrom, IsAtPlace, Spells}
-use Rattle.eb_lexer.specs.Lexing.{Step, stop, bad, passed, found, next}
+use Rattle.eb_lexer.specs.declared.pieces.Next.{Next}
+use Rattle.eb_lexer.specs.declared.pieces.Next.TheVariants as next_of
+use Rattle.eb_lexer.specs.Lexing.{Step, stop, bad, passed, found, next, seen}
 use Rattle.eb_lexer.proofs.Sizes.{size-append}
 use Rattle.eb_lexer.proofs.Spellings.{none_spelled}
 use Rattle.eb_lexer.proofs.PieceLaws.{GapFirst, TokenFirst, NoneFirst, Holds, next_holds, first_same, not_empty}
@@ -210,3 +212,24 @@ lie_pieces (token k (c ∷ cs) ∷ ps) front rest text at e a h =
 pub tokens_lie : (ts : List Token) (text : List ℕ) → IsTokens ts text → LieFrom 0 text ts
 tokens_lie ts text h =
     subst (LieFrom 0 text) (sym h.among) (lie_pieces h.pieces [] (chars text) text 0 (sym (encodes-chars text h.utf8)) refl h.whole)
+
+-- ---- a step of the code
+
+-- so many characters are read on
+pub record Moves (ts : List Token) (at n : ℕ) (text rest : List ℕ) : Type 0 where
+  pub some : 0 < n
+  pub within : n ≤ length rest
+  pub bound : at + size (take n rest) ≤ length text
+  pub read : ReadTo ts (at + size (take n rest)) (chars text) (drop n rest)
+
+pub gap_moves : (ts : List Token) (at n : ℕ) (text rest : List ℕ) (x : Next) → IsUtf8 text → ReadTo ts at (chars text) rest → seen x ≡ next rest → x ≡ next_of.Gap n → Moves ts at n text rest
+gap_moves ts at n text rest x u h e g =
+    let r = gap_read ts at n (chars text) rest h (sym e ∙ ap seen g) in
+    record { some = r.0; within = r.1; bound = read_within ts (at + size (take n rest)) text (drop n rest) u r.2; read = r.2 }
+
+pub token_moves : (ts : List Token) (at n : ℕ) (k : TokenKind) (text rest : List ℕ) (x : Next) → IsUtf8 text → ReadTo ts at (chars text) rest → seen x ≡ next rest → x ≡ next_of.Found k n
+    → Moves (ts ++ record { kind = k; start = at; end = at + size (take n rest) } ∷ []) at n text rest
+token_moves ts at n k text rest x u h e g =
+    let r = token_read ts at n k (chars text) rest h (sym e ∙ ap seen g) in
+    let more : List Token = ts ++ record { kind = k; start = at; end = at + size (take n rest) } ∷ [] in
+    record { some = r.0; within = r.1; bound = read_within more (at + size (take n rest)) text (drop n rest) u r.2; read = r.2 }

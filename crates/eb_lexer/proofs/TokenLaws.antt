@@ -18,6 +18,7 @@ use Rattle.eb_lexer.specs.Tokens.{starts_word, continues_word, continues_label, 
 use Rattle.eb_lexer.proofs.TokenOf.{is_lexeme, number_token, label_token, word_token, token_of}
 use Rattle.eb_lexer.specs.Lexing.{token_at, word_at, word_step, number_at, number_of, label_at, sign_at, reserved}
 use Rattle.eb_lexer.proofs.Numbers.{number_of-large, number_of-small}
+use Rattle.eb_lexer.proofs.Bools.{is_same, and_false, or_true}
 use Rattle.eb_lexer.proofs.Runs.{Stops, take_run, run_passes, run_exact}
 use Rattle.eb_lexer.proofs.SignLaws.{reserved_is, IsLongestSign, sign_found, sign_none}
 
@@ -216,18 +217,10 @@ word_first c cs h =
 
 -- ---- numbers
 
-and_false : (b : Bool) → (b && false) ≡ false
-and_false true = refl
-and_false false = refl
-
 fails_after : (p : ℕ → Bool) (w u : List ℕ) → 0 < length u → Stops p u → list_all p (w ++ u) ≡ false
 fails_after p w [] l stops = absurd (omega arith)
 fails_after p [] (x ∷ xs) l stops = rw stops refl
 fails_after p (y ∷ ys) (x ∷ xs) l stops = rw (fails_after p ys (x ∷ xs) l stops) (and_false (p y))
-
-or_true : (b : Bool) → (b || true) ≡ true
-or_true true = refl
-or_true false = refl
 
 not_number : (ds : List ℕ) → is_number ds ≡ false → number_token ds ≡ None
 not_number ds h = rw h refl
@@ -439,9 +432,6 @@ sign_case c cs (Some x) h d a e =
     }
 
 -- ---- any token
-
-is_same : (a b : ℕ) → (a == b) ≡ true → a ≡ b
-is_same a b h = grind (arith, nat_tests)
 
 token_case : (c : ℕ) (cs : List ℕ) (s d a : Bool) → starts_word c ≡ s → is_digit c ≡ d → (c == 64) ≡ a
     → Reads (cond s (Some (word_at (c ∷ cs))) (cond d (number_at (c ∷ cs)) (cond a (label_at cs) (sign_result (sign_at (c ∷ cs)))))) (c ∷ cs)

@@ -1,6 +1,6 @@
 -- The tokens of a text. A text is parted into white space, comments and tokens, and each token is the longest one at its place.
 -- All of this speaks of characters; a token's place counts bytes.
-use Rattle.std.specs.Prelude.{◌≡◌, ℕ, ◌+◌, ◌*◌, ◌-◌, ◌<◌, ◌≤◌, ◌⊎◌, Bool, true, false, not, ◌&&◌, ◌||◌, ◌==◌, nat_le, List, [], ◌∷◌, ◌++◌, length, take, drop, pos, None, Some, ⊤}
+use Rattle.std.specs.Prelude.{◌≡◌, ℕ, ◌+◌, ◌*◌, ◌-◌, ◌^◌, ◌<◌, ◌≤◌, ◌⊎◌, Bool, true, false, not, ◌&&◌, ◌||◌, ◌==◌, nat_le, List, [], ◌∷◌, ◌++◌, length, take, drop, pos, None, Some, ⊤}
 use Rattle.std.specs.List.{list_all}
 use Rattle.std.specs.Option.{is_some, option_map}
 use Rattle.std.specs.Char.{is_whitespace}
@@ -18,18 +18,19 @@ use Rattle.eb_lexer.specs.Signs.{sign_of}
 abbrev pub is_sign_letter : ℕ → Bool
 is_sign_letter c = (c == 0x03BB) || (c == 0x2115) || (c == 0x2119) || (c == 0x2124) || (c == 0x00B7)
 
--- `_` or XID_Start
+-- `_` or a character of XID_Start, but for those
 unfoldable pub starts_word : ℕ → Bool
 starts_word c = ((c == 95) || is_xid_start c) && not (is_sign_letter c)
 
--- XID_Continue
+-- a character of XID_Continue, but for those
 unfoldable pub continues_word : ℕ → Bool
 continues_word c = is_xid_continue c && not (is_sign_letter c)
 
--- `-` or XID_Continue, but for ·
+-- `-` or a character of XID_Continue, but for ·
 unfoldable pub continues_label : ℕ → Bool
 continues_label c = (c == 45) || (is_xid_continue c && not (c == 0x00B7))
 
+-- 0 to 9
 abbrev pub is_digit : ℕ → Bool
 is_digit c = nat_le 48 c && nat_le c 57
 
@@ -58,7 +59,7 @@ abbrev pub Spells : TokenKind → List ℕ → Type 0
 Spells (kind.Word name) w = (is_identifier w ≡ true) × (sign_of w ≡ None) × (name ≡ encode_utf8_all w)
 Spells (kind.Primed name) w = (v : List ℕ) × (w ≡ v ++ 39 ∷ []) × (is_identifier v ≡ true) × (sign_of v ≡ None) × (name ≡ encode_utf8_all v)
 Spells (kind.Label name) w = (v : List ℕ) × (w ≡ 64 ∷ v) × (is_label_text v ≡ true) × (name ≡ encode_utf8_all v)
-Spells (kind.Number n) w = (is_number w ≡ true) × (number_on 0 w ≤ 4611686018427387904) × (n ≡ pos (number_on 0 w))
+Spells (kind.Number n) w = (is_number w ≡ true) × (number_on 0 w ≤ 2 ^ 62) × (n ≡ pos (number_on 0 w))
 Spells (kind.Sign s) w = sign_of w ≡ Some s
 
 -- a token is written so, or it is a number that may be too large for one
@@ -85,6 +86,7 @@ abbrev pub EndsLine : List ℕ → Type 0
 EndsLine [] = ⊤
 EndsLine (c ∷ cs) = c ≡ 10
 
+-- `*/`
 abbrev pub begins_close : List ℕ → Bool
 begins_close [] = false
 begins_close (a ∷ []) = false
@@ -136,6 +138,7 @@ Begins (p ∷ ps) text rest = (mid : List ℕ) × IsFirst p text mid × Begins p
 abbrev pub size : List ℕ → ℕ
 size cs = length (encode_utf8_all cs)
 
+-- the number of bytes of some pieces
 abbrev pub sizes : List Piece → ℕ
 sizes [] = 0
 sizes (p ∷ ps) = size (written p) + sizes ps

@@ -42,6 +42,7 @@ impl From<AllocError> for LexFault {
 ///
 /// White space and comments part tokens: `//` to the end of the line, and `/*` to the next `*/`. At each other place
 /// stands the longest token. The tokens' places ascend, and each is the bytes from `start` to before `end`.
+/// It takes memory of four bytes for each character, besides the tokens.
 /// The syntax is that of Métayer and Voisin, "The Event-B Mathematical Language" (2009), with its ASCII spellings.
 ///
 /// Errors: NotUtf8 where the text isn't UTF-8; else BadToken with the first place, in bytes, at which neither white space
