@@ -1,5 +1,5 @@
 -- The spellings of the definition, and the token that a text writes as a function.
-use Rattle.std.proofs.Common.{◌≡◌, ◌∙◌, ℕ, suc, ◌+◌, ◌≤◌, ◌<◌, ◌⊎◌, inl, inr, Bool, true, false, cond, not, ◌&&◌, ◌||◌, ◌==◌, List, [], ◌∷◌, ◌++◌, length, take, drop, refl, sym, ap, subst, arith, nat_le}
+use Rattle.std.proofs.Common.{◌≡◌, ◌∙◌, ℕ, ◌≤◌, inl, inr, Bool, true, false, cond, ◌&&◌, ◌||◌, ◌==◌, List, [], ◌∷◌, ◌++◌, length, drop, refl, sym, ap, subst, arith, nat_le}
 use Rattle.std.specs.Prelude.{take_while, Option, Some, None, pos}
 use Rattle.std.specs.Option.{is_some, option_map}
 use Rattle.std.specs.List.{list_all}
@@ -14,9 +14,9 @@ use Rattle.eb_lexer.specs.Signs.{sign_of}
 use Rattle.eb_lexer.specs.Tokens.{starts_word, continues_word, continues_label, is_digit, is_identifier, is_label_text, is_number, number_on, Spells, IsLexeme, IsToken, begins_gap}
 use Rattle.eb_lexer.proofs.TokenOf.{number_token, label_token, word_token, token_of, is_lexeme}
 use Rattle.eb_lexer.proofs.Bools.{or_true, not_either, both_true}
-use Rattle.eb_lexer.proofs.Runs.{Stops, run_passes}
+use Rattle.eb_lexer.proofs.Runs.{run_passes}
 use Rattle.eb_lexer.proofs.SignLaws.{reserved_identifier, symbol_apart, no_empty_sign}
-use Rattle.eb_lexer.proofs.TokenLaws.{IsLongest, run_parts, letter_no_digit, token_number, token_label, token_sign, word_reads, token_word, small_number}
+use Rattle.eb_lexer.proofs.TokenLaws.{IsLongest, run_parts, letter_no_digit, token_number, token_label, token_sign, word_reads, small_number}
 
 -- ---- what is spelled so is read so
 

@@ -5,7 +5,7 @@ use Rattle.std.proofs.lemmas.Str.{encodes-chars, encodes-append, length-le-encod
 use Rattle.std.proofs.lemmas.List.{take_at, drop_at, append-nil, length-append}
 use Rattle.eb_lexer.specs.declared.token.TokenKind.{TokenKind}
 use Rattle.eb_lexer.specs.declared.token.Token.{Token}
-use Rattle.eb_lexer.specs.Tokens.{Piece, blank, line, block, token, written, IsToken, IsFirst, Begins, size, sizes, tokens_at, IsTokens, IsBadAt, LieFrom, IsAtPlace, Spells}
+use Rattle.eb_lexer.specs.Tokens.{Piece, blank, line, block, token, written, IsToken, IsFirst, Begins, size, sizes, tokens_at, IsTokens, IsBadAt, LieFrom}
 use Rattle.eb_lexer.specs.declared.pieces.Next.{Next}
 use Rattle.eb_lexer.specs.declared.pieces.Next.TheVariants as next_of
 use Rattle.eb_lexer.specs.Lexing.{Step, stop, bad, passed, found, next, seen}

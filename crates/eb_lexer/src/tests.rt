@@ -55,7 +55,7 @@ fn places(alloc: Global, text: &[u8]) -> Result<Vec<(u32, u32)>, AllocError> {
 }
 
 // Every spelling, and the signs that they spell.
-const SPELLINGS: [(&str, &str); 17] = [
+static SPELLINGS: [(&str, &str); 7] = [
     (
         "& ∧ or ∨ => ⇒ <=> ⇔ not ¬ ! ∀ # ∃",
         "And And Or Or Implies Implies Equivalent Equivalent Not Not ForAll ForAll Exists Exists",
@@ -81,6 +81,10 @@ const SPELLINGS: [(&str, &str); 17] = [
         "{ } {} ∅ INT ℤ NAT ℕ NAT1 ℕ1 POW ℙ POW1 ℙ1",
         "LeftBrace RightBrace EmptySet EmptySet Integers Integers Naturals Naturals PositiveNaturals PositiveNaturals PowerSet PowerSet NonemptyPowerSet NonemptyPowerSet",
     ),
+];
+
+// The rest of them.
+static MORE_SPELLINGS: [(&str, &str); 10] = [
     (
         "UNION ⋃ INTER ⋂ ( ) [ ] ,",
         "QuantifiedUnion QuantifiedUnion QuantifiedIntersection QuantifiedIntersection LeftParenthesis RightParenthesis LeftBracket RightBracket Comma",
@@ -120,13 +124,30 @@ const SPELLINGS: [(&str, &str); 17] = [
     ),
 ];
 
-const CASES: [(&str, &str); 80] = [
+// Identifiers, primed or not, and reserved words.
+static NAMES: [(&str, &str); 18] = [
     ("x·x", "x Dot x"),
     ("f'", "f'"),
     ("f''", "BadToken 2"),
     ("or'", "BadToken 2"),
     ("f 'x", "BadToken 2"),
     ("x'y", "x' y"),
+    ("λ", "Lambda"),
+    ("λx", "Lambda x"),
+    ("xλ", "x Lambda"),
+    ("xℤ", "x Integers"),
+    ("℘", "℘"),
+    ("é₁ñ", "BadToken 2"),
+    ("éñ", "éñ"),
+    ("orange", "orange"),
+    ("NAT12", "NAT12"),
+    ("or_", "or_"),
+    ("_x1", "_x1"),
+    ("end'", "BadToken 3"),
+];
+
+// Labels.
+static LABELS: [(&str, &str); 8] = [
     ("@l-1", "@l-1"),
     ("@", "BadToken 0"),
     ("@ l", "BadToken 0"),
@@ -135,28 +156,27 @@ const CASES: [(&str, &str); 80] = [
     ("@λ", "@λ"),
     ("@1", "@1"),
     ("@end", "@end"),
-    ("λ", "Lambda"),
-    ("λx", "Lambda x"),
-    ("xλ", "x Lambda"),
-    ("xℤ", "x Integers"),
+];
+
+// The longest sign at each place.
+static SIGNS: [(&str, &str); 13] = [
     ("ℕ1", "PositiveNaturals"),
     ("ℕ2", "Naturals 2"),
     ("ℕ12", "PositiveNaturals 2"),
     ("ℕ 1", "Naturals 1"),
     ("ℤ1", "Integers 1"),
     ("ℙ1", "NonemptyPowerSet"),
-    ("℘", "℘"),
-    ("é₁ñ", "BadToken 2"),
-    ("éñ", "éñ"),
     ("a..b", "a UpTo b"),
-    ("1..2", "1 UpTo 2"),
-    ("1.2", "1 Dot 2"),
     ("...", "UpTo Dot"),
     ("::", "BecomesMember"),
     (":∈", "BecomesMember"),
     (": ∈", "MemberOf MemberOf"),
     (":∣", "BecomesSuchThat"),
     (":|", "BecomesSuchThat"),
+];
+
+// More of the same.
+static MORE_SIGNS: [(&str, &str); 14] = [
     ("|:", "Bar MemberOf"),
     ("<<|", "DomainSubtraction"),
     ("<+", "Override"),
@@ -169,13 +189,23 @@ const CASES: [(&str, &str); 80] = [
     ("∅", "EmptySet"),
     ("x-->y", "x TotalFunction y"),
     ("x--y", "x Minus Minus y"),
-    ("orange", "orange"),
-    ("NAT12", "NAT12"),
     ("NAT1", "PositiveNaturals"),
-    ("or_", "or_"),
+    ("a / / b", "a Divide Divide b"),
+];
+
+// Numbers and their limit.
+static NUMBERS: [(&str, &str); 7] = [
+    ("1..2", "1 UpTo 2"),
+    ("1.2", "1 Dot 2"),
     ("1x", "1 x"),
-    ("_x1", "_x1"),
-    ("end'", "BadToken 3"),
+    ("007", "7"),
+    ("4611686018427387904", "4611686018427387904"),
+    ("4611686018427387905", "BadToken 0"),
+    ("x 99999999999999999999", "BadToken 2"),
+];
+
+// Comments.
+static COMMENTS: [(&str, &str); 12] = [
     ("a// /* b\nc", "a c"),
     ("a/* // */b", "a b"),
     ("a/**/b", "a b"),
@@ -187,12 +217,11 @@ const CASES: [(&str, &str); 80] = [
     ("// x", ""),
     ("a//\r\nb", "a b"),
     ("a//b\n//c\nd", "a d"),
-    ("a / / b", "a Divide Divide b"),
     ("n ≤ 4 ∧ n ≥ 4 // four\n", "n AtMost 4 And n AtLeast 4"),
-    ("007", "7"),
-    ("4611686018427387904", "4611686018427387904"),
-    ("4611686018427387905", "BadToken 0"),
-    ("x 99999999999999999999", "BadToken 2"),
+];
+
+// White space, and what begins no token.
+static TEXTS: [(&str, &str); 8] = [
     ("", ""),
     (" \t\r\n\u{a0}\u{3000}", ""),
     ("a\u{2003}b", "a b"),
@@ -203,20 +232,61 @@ const CASES: [(&str, &str); 80] = [
     ("@a n = 3", "@a n Equal 3"),
 ];
 
+// The first row whose text has other tokens than those that stand beside it, with the tokens that it has.
+fn wrong_row(alloc: Global, rows: &[(&str, &str)]) -> Result<String, AllocError> {
+    for (text, want) in rows {
+        let got = shown(alloc, text.as_bytes())?;
+        if got.as_str() != *want {
+            return format!(in alloc; "{text}: {got}");
+        }
+    }
+    Ok(String::new(alloc))
+}
+
 #[test]
-fn texts_have_these_tokens(rt: HostRuntime) -> Result<(), Fail> {
-    for (text, want) in SPELLINGS {
-        let got = shown(rt.alloc(), text.as_bytes())?;
-        assert_eq!(rt; got.as_str(), want, "at {text}");
-    }
-    for (text, want) in CASES {
-        let got = shown(rt.alloc(), text.as_bytes())?;
-        assert_eq!(rt; got.as_str(), want, "at {text}");
-    }
-    for (text, want) in [(b"\xff" as &[u8], "NotUtf8"), (b"a /*\xc2", "NotUtf8")] {
-        let got = shown(rt.alloc(), text)?;
-        assert_eq!(rt; got.as_str(), want);
-    }
+fn signs_are_spelled_so(rt: HostRuntime) -> Result<(), Fail> {
+    let wrong = wrong_row(rt.alloc(), &SPELLINGS)?;
+    assert_eq!(rt; wrong.as_str(), "");
+    let wrong = wrong_row(rt.alloc(), &MORE_SPELLINGS)?;
+    assert_eq!(rt; wrong.as_str(), "");
+    Ok(())
+}
+
+#[test]
+fn names_and_labels(rt: HostRuntime) -> Result<(), Fail> {
+    let wrong = wrong_row(rt.alloc(), &NAMES)?;
+    assert_eq!(rt; wrong.as_str(), "");
+    let wrong = wrong_row(rt.alloc(), &LABELS)?;
+    assert_eq!(rt; wrong.as_str(), "");
+    Ok(())
+}
+
+#[test]
+fn the_longest_sign_counts(rt: HostRuntime) -> Result<(), Fail> {
+    let wrong = wrong_row(rt.alloc(), &SIGNS)?;
+    assert_eq!(rt; wrong.as_str(), "");
+    let wrong = wrong_row(rt.alloc(), &MORE_SIGNS)?;
+    assert_eq!(rt; wrong.as_str(), "");
+    Ok(())
+}
+
+#[test]
+fn numbers_comments_and_other_texts(rt: HostRuntime) -> Result<(), Fail> {
+    let wrong = wrong_row(rt.alloc(), &NUMBERS)?;
+    assert_eq!(rt; wrong.as_str(), "");
+    let wrong = wrong_row(rt.alloc(), &COMMENTS)?;
+    assert_eq!(rt; wrong.as_str(), "");
+    let wrong = wrong_row(rt.alloc(), &TEXTS)?;
+    assert_eq!(rt; wrong.as_str(), "");
+    Ok(())
+}
+
+#[test]
+fn texts_that_are_no_utf8(rt: HostRuntime) -> Result<(), Fail> {
+    let alone = shown(rt.alloc(), b"\xff")?;
+    assert_eq!(rt; alone.as_str(), "NotUtf8");
+    let behind = shown(rt.alloc(), b"a /*\xc2")?;
+    assert_eq!(rt; behind.as_str(), "NotUtf8");
     Ok(())
 }
 

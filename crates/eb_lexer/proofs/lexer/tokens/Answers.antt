@@ -1,4 +1,4 @@
-use Rattle.std.proofs.Common.{◌≡◌, ◌∙◌, sym, ap, arith, inl, Ok}
+use Rattle.std.proofs.Common.{◌∙◌, sym, ap, arith, inl, Ok}
 use Rattle.eb_lexer.specs.Lexing.{seen}
 use Rattle.eb_lexer.specs.Tokens as spec
 use Rattle.eb_lexer.proofs.TextLaws.{gap_moves, token_moves, is_whole, is_bad, one_reading, no_bad_place}
