@@ -1,0 +1,53 @@
+ghost use Rattle.eb_value.specs.Reading.{AreReadable};
+
+use super::*;
+use eb_value::{Names, compare, read_value, value_text};
+use std::cmp::Ordering;
+use std::test::Fail;
+
+fn no_names(alloc: Global) -> Names
+    ensures { AreReadable result }
+{
+    Names::new(alloc)
+}
+
+fn sets_of(alloc: Global, members: EbType) -> Result<EbType, AllocError> {
+    Ok(EbType {
+        shape: Shape::Power(Boxed::new(alloc, members)?),
+    })
+}
+
+// The set of all subsets of twelve atoms has 4,096 members, and its text reads back.
+#[test]
+fn all_subsets_of_twelve_atoms(rt: HostRuntime) -> Result<(), Fail> {
+    let alloc = rt.alloc();
+    let mut sizes = Sizes::new(alloc);
+    sizes.push(12)?;
+    let scope = Scope {
+        lo: 0,
+        hi: 0,
+        sizes,
+        depth: 0,
+    };
+    let names = no_names(alloc);
+    let atoms = EbType {
+        shape: Shape::Carrier(0),
+    };
+    let subsets = sets_of(alloc, atoms)?;
+    assert_eq!(rt; count(&subsets, &scope), 4096);
+    let all = values(alloc, &subsets, &scope)?;
+    assert_eq!(rt; all.len(), 4096);
+    let all = Value {
+        form: Form::Set(all),
+    };
+    let text = value_text(alloc, &all, &names)?;
+    assert!(rt; text.as_slice().starts_with(b"{{},{#1},{#1,#2},{#1,#2,#3},"));
+    assert!(rt; text.as_slice().ends_with(b",{#11},{#11,#12},{#12}}"));
+    let ty = sets_of(alloc, subsets)?;
+    let is_read = match read_value(alloc, text.as_slice(), &ty, &scope, &names) {
+        Ok(again) => compare(&again, &all) == Ordering::Equal,
+        Err(_) => false,
+    };
+    assert!(rt; is_read);
+    Ok(())
+}
