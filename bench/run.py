@@ -1,5 +1,5 @@
 #!/usr/bin/env python3
-"""Times `solve` on refuted models, and the operators on large sets and relations.
+"""Times `solve` and `check`, and the operators on large sets and relations.
 
 Use: bench/run.py, after `rt run` in crates/cbc_program and in crates/value_times has built the
 programs there. Each row runs once, in a process of its own, and prints wall time, processor time
@@ -35,10 +35,25 @@ def rows():
     yield "3,000 constants, 1 valuation", model(constants, axioms, 1, 1)
 
 
-def timed(words):
+def wide_rows():
+    """Models with more valuations than the budget, and the budget."""
+    wide = model(["a", "b", "c"], "@a a * b < c - 2147483646", -32768, 32767)
+    for budget in (100_000, 200_000, 1_000_000):
+        yield f"3 constants, budget {budget}", wide, budget
+    constants = [f"c{k}" for k in range(3_500)]
+    parts = [" + ".join(constants[k : k + 50]) for k in range(0, 3_500, 50)]
+    axioms = " ".join(f"@a{k} {part} < 0" for k, part in enumerate(parts))
+    yield "3,500 constants, budget 100000", model(constants, axioms, 0, 1), 100_000
+
+
+def timed(words, to=None):
     start = time.monotonic()
     child = subprocess.Popen(words, stdout=subprocess.PIPE)
-    lines = sum(1 for _ in child.stdout)
+    lines = 0
+    for line in child.stdout:
+        lines += 1
+        if to:
+            to.write(line)
     _, status, usage = os.wait4(child.pid, 0)
     child.returncode = os.waitstatus_to_exitcode(status)
     wall = time.monotonic() - start
@@ -50,6 +65,15 @@ def show(name, row):
     print(f"{name:36} {lines:>8} {wall:>8.3f} {processor:>8.3f} {mebibytes:>6.1f} {status:>6}")
 
 
+def show_check(program, model_file, tree_file, name):
+    """Checks the printed tree, where it has no more than 16 MiB."""
+    mebibytes = os.path.getsize(tree_file) / (1 << 20)
+    if mebibytes > 16:
+        print(f"{'  its tree is too long to check':36} {mebibytes:.1f} MiB")
+    else:
+        show(f"  check its tree, {mebibytes:.1f} MiB", timed([program, "check", model_file, tree_file]))
+
+
 def main():
     program = os.path.join(TOP, "crates/cbc_program/out/cbc_program")
     operators = os.path.join(TOP, "crates/value_times/out/value_times")
@@ -59,6 +83,15 @@ def main():
             file.write(text)
             file.flush()
             show(name, timed([program, "solve", file.name]))
+    for name, text, budget in wide_rows():
+        with tempfile.TemporaryDirectory() as folder:
+            model_file = os.path.join(folder, "model.eb")
+            tree_file = os.path.join(folder, "tree")
+            with open(model_file, "w") as file:
+                file.write(text)
+            with open(tree_file, "wb") as file:
+                show(name, timed([program, "solve", model_file, "--budget", str(budget)], file))
+            show_check(program, model_file, tree_file, name)
     for operator, name in (
         ("values", "all sets of 16 atoms, 65,536 values"),
         ("union", "union of relations of 4,000 pairs"),

@@ -9,10 +9,10 @@ pub mod ReadingComplete
 pub mod UsedNames
 pub mod ScopeLaws
 pub mod TextLaws
-pub mod Soundness
-pub mod Stores
-pub mod FirstStores
 pub mod Narrowing
 pub mod Witnesses
 pub mod Runs
 pub mod Texts
+pub mod TreeTexts
+pub mod Commands
+pub mod PrintedVerdicts

@@ -13,8 +13,8 @@ use Rattle.cbc_top.specs.declared.text.syntax.Relation.{Relation}
 use Rattle.cbc_top.specs.declared.text.syntax.Relation.TheVariants as r
 use Rattle.cbc_top.specs.declared.text.syntax.Comparison.{Comparison}
 use Rattle.cbc_top.specs.declared.text.syntax.Axiom.{Axiom}
-use Rattle.cbc_top.specs.Meaning.{Slot, int_of, truth_of, tested, negation, conjunction, at_most, less, truth_by, meaning, value_in, truth_in}
-use Rattle.cbc_top.specs.Problems.{IsTrueOf, slots_of}
+use Rattle.eb_meaning.specs.Meaning.{Slot, int_of, truth_of, tested, negation, conjunction, at_most, less, truth_by, meaning, value_in, truth_in}
+use Rattle.eb_meaning.specs.Problems.{IsTrueOf, slots_of}
 use Rattle.cbc_top.specs.Models.{relation_operator, narrow_relation, sum_term, comparison_term, comparison_fact, conjunction_on, conjunction_of, axiom_term, axiom_fact}
 
 truth_in-binary : (slots : List Slot) (op : Binary) (a b : Term) → truth_in slots (binary op a b) ≡ truth_by op (meaning slots a) (meaning slots b)

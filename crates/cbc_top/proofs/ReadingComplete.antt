@@ -20,7 +20,7 @@ use Rattle.cbc_top.specs.declared.text.syntax.Context.{Context}
 use Rattle.cbc_top.specs.declared.text.syntax.Bound.{Bound}
 use Rattle.cbc_top.specs.declared.text.syntax.ModelText.{ModelText}
 use Rattle.cbc_top.specs.Grammar.{sign_of_relation, sign_of_direction, summand_tokens, more_summands, sum_tokens, comparison_tokens, more_comparisons, conjunction_tokens, axioms_tokens, word_tokens, keyword, bound_tokens, scope_tokens, query_tokens, context_tokens, tokens_of, is_nil, is_axiom, is_identifier}
-use Rattle.cbc_top.specs.Reading.{◌>>=◌, after_word, after_and, after_dots, after_minus, word_at, label_at, number_at, direction_at, relation_at, factor_at, times, summand_at, all_of, part_behind, part_at, sum_at, comparison_at, comparison_behind, more_at, conjunction_at, axiom_behind, axiom_at, constant_at, head_at, context_at, bound_at, scope_at, after_query, read}
+use Rattle.cbc_top.specs.Reading.{◌>>=◌, after_word, after_and, after_dots, after_minus, word_at, label_at, number_at, direction_at, relation_at, factor_at, multiple, product, summand_at, all_of, part_behind, part_at, sum_at, comparison_at, comparison_behind, more_at, conjunction_at, axiom_behind, axiom_at, constant_at, head_at, context_at, bound_at, scope_at, after_query, read}
 use Rattle.cbc_top.proofs.Turns.{Again, all_again}
 use Rattle.cbc_top.proofs.ReadingSound.{part_tokens, parts_spelled, part_shrinks, more_tokens, more_spelled, more_shrinks, axiom_tokens, axioms_spelled, axiom_shrinks, constant_tokens, constants_spelled, constant_shrinks}
 
@@ -103,9 +103,10 @@ factor_again x rest = refl
 
 summand_again : (x : Summand) (rest : List Token) → NoFactor rest → summand_at (summand_tokens x ++ rest) ≡ Some (x, rest)
 unfolding summand_at
-summand_again (summand.Number n) rest h = ap (times n rest) h
-summand_again (summand.Constant x) rest h = refl
-summand_again (summand.Product n x) rest h = ap (times n (token.Sign s.Times ∷ token.Word x ∷ rest)) (factor_again x rest)
+summand_again (summand.Number n) rest h = ap (multiple n rest) h
+summand_again (summand.Constant x) rest h = ap (product x rest) h
+summand_again (summand.Multiple n x) rest h = ap (multiple n (token.Sign s.Times ∷ token.Word x ∷ rest)) (factor_again x rest)
+summand_again (summand.Product x y) rest h = ap (product x (token.Sign s.Times ∷ token.Word y ∷ rest)) (factor_again y rest)
 
 part_one : (p : Direction × Summand) (rest : List Token) → always p ≡ true → NoFactor rest → part_at (part_tokens p ++ rest) ≡ Some (Some (p, rest))
 unfolding part_at

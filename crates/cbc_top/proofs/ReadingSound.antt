@@ -21,7 +21,7 @@ use Rattle.cbc_top.specs.declared.text.syntax.Context.{Context}
 use Rattle.cbc_top.specs.declared.text.syntax.Bound.{Bound}
 use Rattle.cbc_top.specs.declared.text.syntax.ModelText.{ModelText}
 use Rattle.cbc_top.specs.Grammar.{sign_of_relation, sign_of_direction, summand_tokens, more_summands, sum_tokens, comparison_tokens, more_comparisons, conjunction_tokens, axioms_tokens, word_tokens, keyword, bound_tokens, scope_tokens, query_tokens, context_tokens, tokens_of}
-use Rattle.cbc_top.specs.Reading.{after_word, after_and, after_dots, after_minus, word_at, label_at, number_at, direction_at, relation_of, relation_at, factor_at, times, summand_at, all_of, part_behind, part_at, sum_at, comparison_at, comparison_behind, more_at, conjunction_at, axiom_behind, axiom_at, constant_behind, constant_at, head_at, context_at, bound_behind, bound_at, scope_at, after_query, at_end, read}
+use Rattle.cbc_top.specs.Reading.{after_word, after_and, after_dots, after_minus, word_at, label_at, number_at, direction_at, relation_of, relation_at, factor_at, multiple, product, summand_at, all_of, part_behind, part_at, sum_at, comparison_at, comparison_behind, more_at, conjunction_at, axiom_behind, axiom_at, constant_behind, constant_at, head_at, context_at, bound_behind, bound_at, scope_at, after_query, at_end, read}
 use Rattle.cbc_top.proofs.Turns.{Turn, Shrinks, Spelled, tokens_all, bind_some, all_sound}
 
 guard_some : {A : Type 0} (c : Bool) (x y : A) → cond c (Some x) None ≡ Some y → (c ≡ true) × (x ≡ y)
@@ -98,16 +98,22 @@ factor_sound _ x e = absurd cc
 abbrev spells_summand : List Token → Summand × List Token → Type 0
 spells_summand ts x = ts ≡ summand_tokens x.0 ++ x.1
 
-times_sound : (n : ℤ) (ts : List Token) (o : Option (List ℕ × List Token)) (x : Summand × List Token) → factor_at ts ≡ o → times n ts o ≡ Some x → spells_summand (token.Number n ∷ ts) x
-times_sound n ts None x h e = let same : (summand.Number n, ts) ≡ x = cc in subst (spells_summand (token.Number n ∷ ts)) same refl
-times_sound n ts (Some y) x h e =
-    let same : (summand.Product n y.0, y.1) ≡ x = cc in
+multiple_sound : (n : ℤ) (ts : List Token) (o : Option (List ℕ × List Token)) (x : Summand × List Token) → factor_at ts ≡ o → multiple n ts o ≡ Some x → spells_summand (token.Number n ∷ ts) x
+multiple_sound n ts None x h e = let same : (summand.Number n, ts) ≡ x = cc in subst (spells_summand (token.Number n ∷ ts)) same refl
+multiple_sound n ts (Some y) x h e =
+    let same : (summand.Multiple n y.0, y.1) ≡ x = cc in
     subst (spells_summand (token.Number n ∷ ts)) same (ap (λ (z : List Token). token.Number n ∷ z) (factor_sound ts y h))
+
+product_sound : (w : List ℕ) (ts : List Token) (o : Option (List ℕ × List Token)) (x : Summand × List Token) → factor_at ts ≡ o → product w ts o ≡ Some x → spells_summand (token.Word w ∷ ts) x
+product_sound w ts None x h e = let same : (summand.Constant w, ts) ≡ x = cc in subst (spells_summand (token.Word w ∷ ts)) same refl
+product_sound w ts (Some y) x h e =
+    let same : (summand.Product w y.0, y.1) ≡ x = cc in
+    subst (spells_summand (token.Word w ∷ ts)) same (ap (λ (z : List Token). token.Word w ∷ z) (factor_sound ts y h))
 
 summand_sound : (ts : List Token) (x : Summand × List Token) → summand_at ts ≡ Some x → spells_summand ts x
 unfolding summand_at
-summand_sound (token.Number n ∷ ts) x e = times_sound n ts (factor_at ts) x refl e
-summand_sound (token.Word w ∷ ts) x e = let same : (summand.Constant w, ts) ≡ x = cc in subst (spells_summand (token.Word w ∷ ts)) same refl
+summand_sound (token.Number n ∷ ts) x e = multiple_sound n ts (factor_at ts) x refl e
+summand_sound (token.Word w ∷ ts) x e = product_sound w ts (factor_at ts) x refl e
 summand_sound _ x e = absurd cc
 
 abbrev pub part_tokens : Direction × Summand → List Token

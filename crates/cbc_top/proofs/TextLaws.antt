@@ -1,10 +1,10 @@
 -- From the tokens and what was read of them to the text, and back.
-use Rattle.std.proofs.Common.{◌≡◌, ◌∙◌, ℕ, ◌≤◌, Bool, true, false, not, ◌&&◌, nat_le, map, List, length, Some, None, Result, Ok, Err, refl, sym, ap}
+use Rattle.std.proofs.Common.{◌≡◌, ◌∙◌, ℕ, ◌≤◌, Bool, true, false, not, ◌&&◌, map, List, length, Some, None, Result, Ok, Err, refl, sym, ap}
 use Rattle.std.specs.List.{list_all}
 use Rattle.cbc_top.specs.declared.text.tokens.Token.{Token}
 use Rattle.cbc_top.specs.declared.text.syntax.ModelText.{ModelText}
 use Rattle.cbc_top.specs.Tokens.{IsTokens}
-use Rattle.cbc_top.specs.Grammar.{IsText, is_well_formed, has_constants, has_axioms, has_scope, valuations, is_identifier, is_axiom, is_nil, is_among, are_distinct, used_names}
+use Rattle.cbc_top.specs.Grammar.{IsText, is_well_formed, has_constants, has_axioms, has_scope, is_identifier, is_axiom, is_nil, is_among, are_distinct, used_names}
 use Rattle.std.specs.Prelude.{IsErrOf}
 use Rattle.cbc_top.specs.declared.text.fault.TextFault.{TextFault}
 use Rattle.cbc_top.specs.declared.text.fault.TextFault.TheVariants as faults
@@ -13,10 +13,10 @@ use Rattle.cbc_top.proofs.LexerLaws.{one_reading}
 use Rattle.cbc_top.proofs.ReadingSound.{read_sound}
 use Rattle.cbc_top.proofs.ReadingComplete.{read_complete}
 
-both_of_four : (a b c d : Bool) → (a && b && c && d) ≡ true → (a ≡ true) × (b ≡ true)
-both_of_four true true c d e = (refl, refl)
-both_of_four true false c d e = absurd cc
-both_of_four false b c d e = absurd cc
+both_of_three : (a b c : Bool) → (a && b && c) ≡ true → (a ≡ true) × (b ≡ true)
+both_of_three true true c e = (refl, refl)
+both_of_three true false c e = absurd cc
+both_of_three false b c e = absurd cc
 
 third_of_six : (a b c d e f : Bool) → (a && b && c && d && e && f) ≡ true → c ≡ true
 third_of_six true true true d e f h = refl
@@ -31,7 +31,7 @@ first_of_two false b e = absurd cc
 -- a text of the language is read
 reads : (text : List ℕ) (t : ModelText) → IsText text t → (ts : List Token) → IsTokens ts text → read ts ≡ Some t
 reads text t h ts are =
-    let parts = both_of_four (has_constants t.context) (has_axioms t.context) (has_scope t) (nat_le (valuations t) 100000) h.well_formed in
+    let parts = both_of_three (has_constants t.context) (has_axioms t.context) (has_scope t) h.well_formed in
     let names : list_all is_identifier t.context.constants ≡ true =
     third_of_six (is_identifier t.context.name) (not (is_nil t.context.constants)) (list_all is_identifier t.context.constants) (are_distinct t.context.constants)
     (list_all (is_among (used_names t.context)) t.context.constants) (list_all (is_among t.context.constants) (used_names t.context)) parts.0 in

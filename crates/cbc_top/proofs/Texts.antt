@@ -38,7 +38,7 @@ next_shorter t text rest next =
     let begun : length next.begun ≡ length next.first.spelling + length rest = ap length next.first.front ∙ length-append next.first.spelling rest in
     omega arith
 
-few_tokens : (ts : List Token) (text : List ℕ) → IsTokens ts text → length ts ≤ length text
+pub few_tokens : (ts : List Token) (text : List ℕ) → IsTokens ts text → length ts ≤ length text
 few_tokens [] text h = omega arith
 few_tokens (t ∷ ts) text h =
     let shorter = next_shorter t text h.0 h.1 in

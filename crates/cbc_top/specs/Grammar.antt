@@ -4,10 +4,9 @@
 --          "scope" "int" ["-"] num ".." ["-"] num "end" "queries" "axioms" "end"
 --   cmp  = sum ("<" | "<=" | ">" | ">=") sum | sum ("=" | "/=") num
 --   sum  = term {("+" | "-") term}
---   term = num ["*" id] | id
-use Rattle.std.specs.Prelude.{◌≡◌, ℕ, ◌^◌, ◌≤◌, Bool, true, false, not, ◌&&◌, nat_le, int_le, if◌then◌else◌, List, [], ◌∷◌, ◌++◌, map, length, codes, ℤ, pos, negsuc, ◌-ℤ◌, ◌+ℤ◌}
+--   term = num ["*" id] | id ["*" id]
+use Rattle.std.specs.Prelude.{◌≡◌, ℕ, ◌≤◌, Bool, true, false, not, ◌&&◌, nat_le, int_le, if◌then◌else◌, List, [], ◌∷◌, ◌++◌, map, length, codes, ℤ, pos, negsuc, ◌-ℤ◌}
 use Rattle.std.specs.List.{list_all, list_any, flat_map}
-use Rattle.std.specs.Int.{int_gap}
 use Rattle.std.specs.Str.{bytes_eq}
 use Rattle.cbc_top.specs.declared.text.tokens.Sign.{Sign}
 use Rattle.cbc_top.specs.declared.text.tokens.Sign.TheVariants as s
@@ -44,7 +43,8 @@ sign_of_direction d.Minus = s.Minus
 abbrev pub summand_tokens : Summand → List Token
 summand_tokens (summand.Number n) = token.Number n ∷ []
 summand_tokens (summand.Constant x) = token.Word x ∷ []
-summand_tokens (summand.Product n x) = token.Number n ∷ token.Sign s.Times ∷ token.Word x ∷ []
+summand_tokens (summand.Multiple n x) = token.Number n ∷ token.Sign s.Times ∷ token.Word x ∷ []
+summand_tokens (summand.Product x y) = token.Word x ∷ token.Sign s.Times ∷ token.Word y ∷ []
 
 abbrev pub more_summands : List (Direction × Summand) → List Token
 more_summands [] = []
@@ -119,7 +119,8 @@ are_distinct (w ∷ ws) = not (is_among ws w) && are_distinct ws
 abbrev pub summand_names : Summand → List (List ℕ)
 summand_names (summand.Number n) = []
 summand_names (summand.Constant x) = x ∷ []
-summand_names (summand.Product n x) = x ∷ []
+summand_names (summand.Multiple n x) = x ∷ []
+summand_names (summand.Product x y) = x ∷ y ∷ []
 
 abbrev pub sum_names : Sum → List (List ℕ)
 sum_names sum = summand_names sum.first ++ flat_map (λ part. summand_names part.1) sum.rest
@@ -175,12 +176,8 @@ abbrev pub has_scope : ModelText → Bool
 has_scope t =
     int_le (negsuc 32767) (bound_value t.lo) && int_le (bound_value t.lo) (bound_value t.hi) && int_le (bound_value t.hi) (pos 32767)
 
--- how many valuations of the constants the scope has
-abbrev pub valuations : ModelText → ℕ
-valuations t = int_gap (bound_value t.lo) (bound_value t.hi +ℤ pos 1) ^ length t.context.constants
-
 abbrev pub is_well_formed : ModelText → Bool
-is_well_formed t = has_constants t.context && has_axioms t.context && has_scope t && nat_le (valuations t) 100000
+is_well_formed t = has_constants t.context && has_axioms t.context && has_scope t
 
 -- The text is this one of the language.
 pub record IsText (text : List ℕ) (t : ModelText) : Type 0 where

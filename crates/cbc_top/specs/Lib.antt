@@ -2,11 +2,8 @@ pub mod Tokens
 pub mod Grammar
 pub mod Lexing
 pub mod Reading
-pub mod Meaning
-pub mod Problems
-pub mod Domains
-pub mod Trees
-pub mod Search
 pub mod Models
+pub mod Words
 pub mod Answers
 pub mod Run
+pub mod Due

@@ -34,7 +34,8 @@ place_in names name = place_from 0 names name
 abbrev pub summand_term : List (List ℕ) → Summand → Term
 summand_term names (summand.Number n) = integer n
 summand_term names (summand.Constant x) = reference (place_in names x) type_of.integer
-summand_term names (summand.Product n x) = binary operator.Times (integer n) (reference (place_in names x) type_of.integer)
+summand_term names (summand.Multiple n x) = binary operator.Times (integer n) (reference (place_in names x) type_of.integer)
+summand_term names (summand.Product x y) = binary operator.Times (reference (place_in names x) type_of.integer) (reference (place_in names y) type_of.integer)
 
 abbrev pub operator_of : Direction → Binary
 operator_of d.Plus = operator.Plus

@@ -86,13 +86,17 @@ unfoldable pub factor_at : List Token → Option (List ℕ × List Token)
 factor_at (token.Sign s.Times ∷ ts) = word_at ts
 factor_at _ = None
 
-abbrev pub times : ℤ → List Token → Option (List ℕ × List Token) → Option (Summand × List Token)
-times n ts None = Some (summand.Number n, ts)
-times n ts (Some x) = Some (summand.Product n x.0, x.1)
+abbrev pub multiple : ℤ → List Token → Option (List ℕ × List Token) → Option (Summand × List Token)
+multiple n ts None = Some (summand.Number n, ts)
+multiple n ts (Some x) = Some (summand.Multiple n x.0, x.1)
+
+abbrev pub product : List ℕ → List Token → Option (List ℕ × List Token) → Option (Summand × List Token)
+product x ts None = Some (summand.Constant x, ts)
+product x ts (Some y) = Some (summand.Product x y.0, y.1)
 
 unfoldable pub summand_at : List Token → Option (Summand × List Token)
-summand_at (token.Number n ∷ ts) = times n ts (factor_at ts)
-summand_at (token.Word x ∷ ts) = Some (summand.Constant x, ts)
+summand_at (token.Number n ∷ ts) = multiple n ts (factor_at ts)
+summand_at (token.Word x ∷ ts) = product x ts (factor_at ts)
 summand_at _ = None
 
 -- One after the other. A turn gives none where it fails, and nothing where no more comes.

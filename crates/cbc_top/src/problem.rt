@@ -29,9 +29,15 @@ fn summand_term(alloc: Global, names: &[Name], summand: &Summand) -> Result<Term
     match summand {
         Summand::Number(n) => Ok(Term::integer(*n)),
         Summand::Constant(name) => Ok(Term::reference(place_in(names, name))),
-        Summand::Product(n, name) => {
+        Summand::Multiple(n, name) => {
             let constant = Term::reference(place_in(names, name));
             let product = Term::binary(alloc, Binary::Times, Term::integer(*n), constant)?;
+            Ok(product)
+        }
+        Summand::Product(first, second) => {
+            let first = Term::reference(place_in(names, first));
+            let second = Term::reference(place_in(names, second));
+            let product = Term::binary(alloc, Binary::Times, first, second)?;
             Ok(product)
         }
     }

@@ -5,8 +5,10 @@ use std::alloc::{AllocError, Global};
 use std::str;
 use std::test::Fail;
 
+mod budgets;
 mod faults;
 mod languages;
+mod trees;
 
 const NOT_YET: &str = "refused E15 NotYet\n";
 
@@ -24,19 +26,36 @@ fn names_of(alloc: Global, words: &str) -> Result<Names, AllocError> {
     Ok(names)
 }
 
-/// A source with one file, `m`.
-fn source_of(alloc: Global, text: &[u8], failing: &[u64]) -> Result<MemSource, AllocError> {
+/// A source with the file `m`, and `t` where there is a tree.
+fn source_of(
+    alloc: Global,
+    text: &[u8],
+    tree: Option<&[u8]>,
+    failing: &[u64],
+) -> Result<MemSource, AllocError> {
     let mut files = NamedFiles::new(alloc);
     files.push((Name::new(alloc, "m")?, Bytes::from_slice(alloc, text)?))?;
+    if let Some(tree) = tree {
+        files.push((Name::new(alloc, "t")?, Bytes::from_slice(alloc, tree)?))?;
+    }
     Ok(MemSource::new(files, Calls::from_slice(alloc, failing)?))
 }
 
-fn outcome(alloc: Global, words: &str, text: &[u8]) -> Result<Outcome, AllocError> {
+fn outcome_with(
+    alloc: Global,
+    words: &str,
+    text: &[u8],
+    tree: Option<&[u8]>,
+) -> Result<Outcome, AllocError> {
     let words = names_of(alloc, words)?;
-    let mut src = source_of(alloc, text, &[])?;
+    let mut src = source_of(alloc, text, tree, &[])?;
     let mut out = MemSink::new(alloc, 4 << 20, Calls::new(alloc))?;
     let status = run(alloc, words.as_slice(), &mut src, &mut out);
     Ok((Bytes::from_slice(alloc, out.taken())?, status))
+}
+
+fn outcome(alloc: Global, words: &str, text: &[u8]) -> Result<Outcome, AllocError> {
+    outcome_with(alloc, words, text, None)
 }
 
 /// A context with these constants and axioms, and this scope of integers.

@@ -1,65 +1,38 @@
-ghost use Rattle.std.specs.Prelude.{◌≡◌, ◌≢◌, ◌<◌, ◌^◌, length, IfOk, true, Err};
-ghost use Rattle.std.specs.Option.{option_copied};
+ghost use Rattle.std.specs.Prelude.{◌≡◌, ◌≢◌, ◌<◌, ◌≤◌, ◌^◌, length, IfOk, Some, Err};
 ghost use Rattle.std.specs.Io.KnownBytes.{Appends};
-ghost use Rattle.cbc_outside.specs.Outside.{Rose, AppendsFront};
+ghost use Rattle.cbc_outside.specs.Outside.{Rose, AppendsFront, lookup};
 ghost use Rattle.cbc_top.specs.declared.top.Stop.TheVariants.{Memory};
-ghost use Rattle.cbc_top.specs.Grammar.{is_well_formed};
-ghost use Rattle.cbc_top.specs.Answers.{IsAnswer};
+ghost use Rattle.cbc_top.specs.Grammar.{IsText};
+ghost use Rattle.cbc_top.specs.Words.{command as asked};
+ghost use Rattle.cbc_top.specs.Answers as answers;
 ghost use Rattle.cbc_top.specs.Run as spec;
+ghost use Rattle.cbc_top.specs.Due as due;
 
-use crate::answer::{found, refuted};
-use crate::branch_search::{Answer, search};
+use crate::answer::{found, judged, refuted, undecided};
 use crate::problem::{problem_of, scope_of};
+use crate::refusal::Refusal;
 use crate::status::Status;
 use crate::text::syntax::ModelText;
 use crate::text::{TextFault, model_text};
+use crate::words::{Action, command};
+use branch_search::{Answer, search};
 use cbc_outside::{ReadStop, Sink, Source, read_all, write_all};
 use eb_value::{Bytes, Name};
 use std::alloc::{AllocError, Global};
+use tree_checker::{Verdict, check_text};
 
 /// A model file has no more bytes.
-const MAX_FILE: u64 = 4 << 20;
+const LONGEST_MODEL: u64 = 4 << 20;
 
-/// The file of the command, or none where the words are no command.
-fn command(words: &[Name]) -> Option<&Name>
-    ensures { option_copied result ≡ spec.command words.now }
-{
-    let [action, file] = words else {
-        return None;
-    };
-    let is_file = match file.as_str().as_bytes() {
-        [] => false,
-        [first, ..] => *first != b'-',
-    };
-    if action.as_str() == "solve" && is_file {
-        Some(file)
-    } else {
-        None
-    }
-}
+/// A tree file has no more bytes.
+const LONGEST_TREE: u64 = 16 << 20;
 
-/// The text of an answer to the query.
-fn answer_of(alloc: Global, text: &ModelText) -> Result<Bytes, AllocError>
-    requires well_formed { is_well_formed text.now ≡ true }
-    requires few { length text.now.context.constants < 2 ^ 32 }
-    ensures { IfOk result (IsAnswer text.now) }
-{
-    let problem = problem_of(alloc, text)?;
-    let scope = scope_of(alloc, text);
-    match search(alloc, &problem, &scope)? {
-        Answer::Found(row) => {
-            let text = found(alloc, text.context.constants.as_slice(), row.as_slice())?;
-            Ok(text)
-        }
-        Answer::Refuted(lines) => {
-            let text = refuted(alloc, lines.as_slice())?;
-            Ok(text)
-        }
-    }
-}
+/// What is written, and the status after it.
+type Due = (Bytes, Status);
 
-/// Why a run ends without an answer or a refusal.
+/// Why a run ends without an answer.
 enum Stop {
+    Refused(Refusal),
     ReadFault,
     Memory,
 }
@@ -72,59 +45,128 @@ impl From<AllocError> for Stop {
     }
 }
 
-/// What is written, and the status after it.
-type Due = (Bytes, Status);
-
-fn refusal(alloc: Global, line: &[u8]) -> Result<Due, AllocError>
-    ensures { IfOk result (λ due. spec.IsRefusal line.now due.0 due.1) }
+/// The answer to the query of a text.
+fn solved(alloc: Global, text: &ModelText, budget: u64) -> Result<Due, AllocError>
+    requires readable { due.IsReadable text.now }
+    ensures { IfOk result (λ d. answers.IsAnswer text.now budget d.0 d.1) }
 {
-    Ok((Bytes::from_slice(alloc, line)?, Status::Refused))
-}
-
-/// What is due on a text.
-fn due_on(alloc: Global, text: &[u8]) -> Result<Due, AllocError>
-    ensures lawful { IfOk result (λ due. spec.OnText text.now due.0 due.1) }
-    ensures whole { IfOk result (λ due. spec.IsWhole due.1) }
-{
-    match model_text(alloc, text) {
-        Ok(model) => {
-            let bytes = answer_of(alloc, &model)?;
+    let problem = problem_of(alloc, text)?;
+    let scope = scope_of(alloc, text);
+    match search(alloc, &problem, &scope, budget)? {
+        Answer::Found(values) => {
+            let bytes = found(alloc, text.context.constants.as_slice(), values.as_slice())?;
             Ok((bytes, Status::Decided))
         }
-        Err(TextFault::NotYet) => {
-            let due = refusal(alloc, b"refused E15 NotYet\n")?;
-            Ok(due)
+        Answer::Refuted(lines) => {
+            let bytes = refuted(alloc, lines.as_slice())?;
+            Ok((bytes, Status::Decided))
         }
-        Err(TextFault::Memory) => Err(AllocError),
+        Answer::Undecided(lines) => {
+            let bytes = undecided(alloc, budget, lines.as_slice())?;
+            Ok((bytes, Status::Undecided))
+        }
     }
 }
 
-/// What is due at these words.
-fn due_at<S: Source>(alloc: Global, words: &[Name], src: &mut S) -> Result<Due, Stop>
-    ensures lawful { IfOk result (λ due. spec.ForFiles (S.files src.old) (λ files. spec.Run words.now files due.0 due.1)) }
-    ensures whole { IfOk result (λ due. spec.IsWhole due.1) }
-    ensures fault { result ≡ Err Stop.ReadFault → Rose (S.faults src.old) (S.faults src.new) }
-    ensures named { result ≡ Err Stop.ReadFault → spec.command words.now ≡ S.fault_name src.new }
+/// The status after a verdict.
+fn status_of(verdict: Verdict) -> Status
+    ensures { result ≡ answers.status_of verdict }
 {
-    let Some(file) = command(words) else {
-        let due = refusal(alloc, b"refused E14 Words\n")?;
-        return Ok(due);
-    };
-    let file = file.copied(alloc)?;
-    match read_all(alloc, src, file, MAX_FILE) {
-        Ok(text) => {
-            let due = due_on(alloc, text.as_slice())?;
-            Ok(due)
-        }
-        Err(ReadStop::TooLong) => {
-            let due = refusal(alloc, b"refused E13 TooLong\n")?;
-            Ok(due)
-        }
+    match verdict {
+        Verdict::Accepted => Status::Decided,
+        Verdict::Partial(_) | Verdict::Refused(_, _) => Status::NotHeld,
+    }
+}
+
+/// The verdict on a tree for the problem of a text.
+fn checked(alloc: Global, text: &ModelText, tree: &[u8]) -> Result<Due, AllocError>
+    requires readable { due.IsReadable text.now }
+    requires short { length tree.now ≤ 16777216 }
+    ensures { IfOk result (λ d. answers.IsJudged text.now tree.now d.0 d.1) }
+{
+    let problem = problem_of(alloc, text)?;
+    let scope = scope_of(alloc, text);
+    let verdict = check_text(alloc, &problem, &scope, tree)?;
+    let bytes = judged(alloc, verdict)?;
+    Ok((bytes, status_of(verdict)))
+}
+
+/// The model of a file.
+fn model_in<S: Source>(alloc: Global, src: &mut S, file: Name) -> Result<ModelText, Stop>
+    ensures same { S.files src.new ≡ S.files src.old }
+    ensures read { spec.ForFiles (S.files src.old) (λ files. due.ReadsModel (lookup files file) result) }
+    ensures readable { IfOk result due.IsReadable }
+    ensures fault { result ≡ Err Stop.ReadFault → Rose (S.faults src.old) (S.faults src.new) }
+    ensures named { result ≡ Err Stop.ReadFault → S.fault_name src.new ≡ Some file }
+    ensures later { S.faults src.old ≤ S.faults src.new }
+{
+    match read_all(alloc, src, file, LONGEST_MODEL) {
+        Ok(text) => match model_text(alloc, text.as_slice()) {
+            Ok(model) => Ok(model),
+            Err(TextFault::NotYet) => Err(Stop::Refused(Refusal::NotYet)),
+            Err(TextFault::Memory) => Err(Stop::Memory),
+        },
+        Err(ReadStop::TooLong) => Err(Stop::Refused(Refusal::TooLong)),
         Err(ReadStop::Failed) => Err(Stop::ReadFault),
         Err(ReadStop::Memory) => Err(Stop::Memory),
     }
 }
 
+/// The text of a tree's file.
+fn tree_in<S: Source>(alloc: Global, src: &mut S, file: Name) -> Result<Bytes, Stop>
+    ensures read { spec.ForFiles (S.files src.old) (λ files. due.ReadsTree (lookup files file) result) }
+    ensures short { IfOk result (λ text. length text ≤ 16777216) }
+    ensures fault { result ≡ Err Stop.ReadFault → Rose (S.faults src.old) (S.faults src.new) }
+    ensures named { result ≡ Err Stop.ReadFault → S.fault_name src.new ≡ Some file }
+{
+    match read_all(alloc, src, file, LONGEST_TREE) {
+        Ok(text) => Ok(text),
+        Err(ReadStop::TooLong) => Err(Stop::Refused(Refusal::NotYet)),
+        Err(ReadStop::Failed) => Err(Stop::ReadFault),
+        Err(ReadStop::Memory) => Err(Stop::Memory),
+    }
+}
+
+/// What is due at `solve FILE`.
+fn due_at_solve<S: Source>(alloc: Global, src: &mut S, file: Name, budget: u64) -> Result<Due, Stop>
+    ensures lawful { spec.ForFiles (S.files src.old) (λ files. due.DueBy (spec.OnCommand (Some (Action.Solve file budget)) files) result) }
+    ensures whole { IfOk result (λ d. spec.IsWhole d.1) }
+    ensures fault { result ≡ Err Stop.ReadFault → Rose (S.faults src.old) (S.faults src.new) }
+    ensures named { result ≡ Err Stop.ReadFault → spec.IsFileOf (Some (Action.Solve file budget)) (S.fault_name src.new) }
+{
+    let text = model_in(alloc, src, file)?;
+    let due = solved(alloc, &text, budget)?;
+    Ok(due)
+}
+
+/// What is due at `check FILE TREE`.
+fn due_at_check<S: Source>(alloc: Global, src: &mut S, file: Name, tree: Name) -> Result<Due, Stop>
+    ensures lawful { spec.ForFiles (S.files src.old) (λ files. due.DueBy (spec.OnCommand (Some (Action.Check file tree)) files) result) }
+    ensures whole { IfOk result (λ d. spec.IsWhole d.1) }
+    ensures fault { result ≡ Err Stop.ReadFault → Rose (S.faults src.old) (S.faults src.new) }
+    ensures named { result ≡ Err Stop.ReadFault → spec.IsFileOf (Some (Action.Check file tree)) (S.fault_name src.new) }
+    ensures order { result ≡ Err Stop.ReadFault → spec.ForFiles (S.files src.old) (λ files. spec.JudgesModelFirst (Some (Action.Check file tree)) files (S.fault_name src.new)) }
+{
+    let text = model_in(alloc, src, file)?;
+    let tree = tree_in(alloc, src, tree)?;
+    let due = checked(alloc, &text, tree.as_slice())?;
+    Ok(due)
+}
+
+/// What is due at these words.
+fn due_at<S: Source>(alloc: Global, words: &[Name], src: &mut S) -> Result<Due, Stop>
+    ensures lawful { spec.ForFiles (S.files src.old) (λ files. due.DueBy (spec.Run words.now files) result) }
+    ensures whole { IfOk result (λ d. spec.IsWhole d.1) }
+    ensures fault { result ≡ Err Stop.ReadFault → Rose (S.faults src.old) (S.faults src.new) }
+    ensures named { result ≡ Err Stop.ReadFault → spec.IsFileOf (asked words.now) (S.fault_name src.new) }
+    ensures order { result ≡ Err Stop.ReadFault → spec.ForFiles (S.files src.old) (λ files. spec.JudgesModelFirst (asked words.now) files (S.fault_name src.new)) }
+{
+    match command(alloc, words)? {
+        None => Err(Stop::Refused(Refusal::Words)),
+        Some(Action::Solve(file, budget)) => due_at_solve(alloc, src, file, budget),
+        Some(Action::Check(file, tree)) => due_at_check(alloc, src, file, tree),
+    }
+}
 /// Writes the bytes and ends with the status, or at a fault.
 fn say<K: Sink>(out: &mut K, bytes: &[u8], status: Status) -> Status
     requires { spec.IsWhole status }
@@ -142,9 +184,12 @@ fn say<K: Sink>(out: &mut K, bytes: &[u8], status: Status) -> Status
 /// Carries out the command that the words say, over the source's files, and writes to the sink.
 ///
 /// `solve FILE` answers the query of a model: `found` with values of the constants that make
-/// each axiom well-defined and true, or `refuted` with a tree that shows that there are none in
-/// the scope. Anything else is refused with one line: `E14` the words, `E13` a file that is too
-/// long, `E15` a text that isn't of the language.
+/// each axiom well-defined and true; `refuted` with a tree that shows that there are none in
+/// the scope; or `undecided` with a tree that leaves boxes open, after as many splits as the budget
+/// allows. `check FILE TREE` judges a tree, whoever wrote it, by the model: `accepted`, `partial`
+/// with the number of open boxes, or `refused` with the first line at fault and its cause. Anything
+/// else is refused with one line: `E14` the words, `E13` a model file that is too long, `E15` a
+/// model that isn't of the language or a tree file that is too long.
 pub fn run<S: Source, K: Sink>(alloc: Global, words: &[Name], src: &mut S, out: &mut K) -> Status
     // Where no fault and no want of memory ended it, what it wrote and its status are lawful.
     ensures answers { spec.IsWhole result → spec.ForFiles (S.files src.old) (λ files.
@@ -152,14 +197,18 @@ pub fn run<S: Source, K: Sink>(alloc: Global, words: &[Name], src: &mut S, out: 
     // Else what it wrote is a proper front of something lawful.
     ensures front { (spec.IsWhole result → ⊥) → spec.ForFiles (S.files src.old) (λ files.
         spec.Writes (K.taken out.old) (K.taken out.new) (spec.Begins words.now files)) }
-    // A read fault comes only where the source failed at the command's file, before any output.
+    // A read fault comes only where the source failed at a file of the command, before any output.
     ensures read_fault { result ≡ Status.ReadFault → Rose (S.faults src.old) (S.faults src.new) }
-    ensures read_name { result ≡ Status.ReadFault → spec.command words.now ≡ S.fault_name src.new }
+    ensures read_name { result ≡ Status.ReadFault → spec.IsFileOf (asked words.now) (S.fault_name src.new) }
+    // It comes at a tree's file only where the model was read and is of the language.
+    ensures read_order { result ≡ Status.ReadFault → spec.ForFiles (S.files src.old) (λ files.
+        spec.JudgesModelFirst (asked words.now) files (S.fault_name src.new)) }
     ensures read_nothing { result ≡ Status.ReadFault → K.taken out.new ≡ K.taken out.old }
     ensures write_fault { result ≡ Status.WriteFault → Rose (K.faults out.old) (K.faults out.new) }
 {
     match due_at(alloc, words, src) {
         Ok((bytes, status)) => say(out, bytes.as_slice(), status),
+        Err(Stop::Refused(refusal)) => say(out, refusal.line().as_bytes(), Status::Refused),
         Err(Stop::ReadFault) => Status::ReadFault,
         Err(Stop::Memory) => Status::Memory,
     }

@@ -2,7 +2,7 @@ ghost use Rattle.std.specs.Prelude.{◌≡◌, IfOk};
 ghost use Rattle.eb_value.specs.Types.{integer};
 ghost use Rattle.eb_term.specs.Terms as spec;
 
-use eb_value::{EbType, Form, Shape, Value};
+use eb_value::{EbType, Shape, Value};
 use sqlite_items::Boxed;
 use std::alloc::{AllocError, Global};
 
@@ -63,9 +63,8 @@ impl Term {
     pub fn integer(n: i64) -> Term
         ensures { result ≡ spec.integer n }
     {
-        let value = Value { form: Form::Int(n) };
         Term {
-            head: Head::Literal(value, integer_type()),
+            head: Head::Literal(Value::integer(n), integer_type()),
         }
     }
 

@@ -45,13 +45,9 @@ fn integers(alloc: Global, lo: i64, hi: i64) -> Result<Values, AllocError>
         return Ok(all);
     }
     for k in 0..hi.abs_diff(lo) {
-        all.push(Value {
-            form: Form::Int(moved_up(lo, k)),
-        })?;
+        all.push(Value::integer(moved_up(lo, k)))?;
     }
-    all.push(Value {
-        form: Form::Int(hi),
-    })?;
+    all.push(Value::integer(hi))?;
     Ok(all)
 }
 

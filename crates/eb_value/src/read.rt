@@ -257,19 +257,13 @@ fn integer_at(text: &[u8]) -> (Value, &[u8])
     match text {
         [b'-', rest @ ..] => {
             let (number, rest) = digits_at(rest);
-            (made_integer(-capped(number)), rest)
+            (Value::integer(-capped(number)), rest)
         }
         _ => {
             let (number, rest) = digits_at(text);
-            (made_integer(capped(number)), rest)
+            (Value::integer(capped(number)), rest)
         }
     }
-}
-
-fn made_integer(n: i64) -> Value
-    ensures { result ≡ int n }
-{
-    Value { form: Form::Int(n) }
 }
 
 fn capped(number: u64) -> i64

@@ -8,7 +8,7 @@ use std::alloc::{AllocError, Global};
 use std::test::Fail;
 
 fn int(n: i64) -> Value {
-    Value { form: Form::Int(n) }
+    Value::integer(n)
 }
 
 fn pair(alloc: Global, first: Value, second: Value) -> Result<Value, AllocError> {

@@ -1,4 +1,5 @@
 ghost use Rattle.std.specs.Prelude.{◌≡◌, IfOk};
+ghost use Rattle.eb_value.specs.Values as spec;
 
 use crate::lists::Values;
 use sqlite_items::{Boxed, Items};
@@ -28,6 +29,13 @@ pub enum Form {
 }
 
 impl Value {
+    /// The value of an integer.
+    pub fn integer(n: i64) -> Value
+        ensures { result ≡ spec.int n }
+    {
+        Value { form: Form::Int(n) }
+    }
+
     /// An equal value. The only error is want of memory.
     #[cycle(copying)]
     pub fn copied(&self, alloc: Global) -> Result<Value, AllocError>

@@ -9,17 +9,13 @@ use sqlite_items::Boxed;
 use std::alloc::{AllocError, Global};
 use std::{env, io};
 
-fn integer(n: i64) -> Value {
-    Value { form: Form::Int(n) }
-}
-
 /// The pairs of each number and the next one, from a number on.
 fn successors(alloc: Global, from: u32, many: u32) -> Result<Values, AllocError> {
     let mut pairs = Values::new(alloc);
     for k in 0..many {
         let first = i64::from(from) + i64::from(k);
-        let first_part = Boxed::new(alloc, integer(first))?;
-        let second_part = Boxed::new(alloc, integer(first + 1))?;
+        let first_part = Boxed::new(alloc, Value::integer(first))?;
+        let second_part = Boxed::new(alloc, Value::integer(first + 1))?;
         pairs.push(Value {
             form: Form::Pair(first_part, second_part),
         })?;

@@ -65,7 +65,7 @@ fn solved(
     is_slow: bool,
 ) -> Result<Outcome, AllocError> {
     let words = names_of(alloc, "solve/m")?;
-    let mut src = source_of(alloc, MODEL.as_bytes(), reads)?;
+    let mut src = source_of(alloc, MODEL.as_bytes(), None, reads)?;
     let mut out = MemSink::new(alloc, 1000, Calls::from_slice(alloc, writes)?)?;
     if !is_slow {
         let status = run(alloc, words.as_slice(), &mut src, &mut out);
@@ -114,6 +114,11 @@ fn words_and_files_are_judged(rt: HostRuntime) -> Result<(), Fail> {
         "solve/m/m",
         "Solve/m",
         "m/solve",
+        "check/m",
+        "check/m/t/t",
+        "check/m/-t",
+        "check//t",
+        "solve/m/t",
     ] {
         let ended = outcome(alloc, words, MODEL.as_bytes())?;
         assert_eq!(rt; ended.0.as_slice(), b"refused E14 Words\n".as_slice());

@@ -76,7 +76,12 @@ b a|@a a - b = 5|0..5|b = 0, a = 5;\
 n|@a n < 4611686018427387904|3..3|n = 3;\
 n|@a n < 4611686018427387905|3..3|E15;\
 n|@a n < 18446744073709551617|3..3|E15;\
-n|@a n * n = 7|0..5|E15;\
+n|@a n * n = 7|0..5|5;\
+n|@a n*n = 4|0..5|n = 2;\
+a b|@a a * b = 6 & a < b|2..3|a = 2, b = 3;\
+n|@a n * n * n = 1|0..5|E15;\
+n|@a n * 2 = 4|0..5|E15;\
+n|@a n * m = 4|0..5|E15;\
 n|@a n = 3 + 0|0..5|E15;\
 n|@a n = n|0..5|E15;\
 n|@a -3 < n|0..5|E15;\
@@ -98,7 +103,7 @@ scope|@a scope = 3|3..3|scope = 3;\
 n|@a n = 3|5..0|E15;\
 n|@a n = 3|-32769..0|E15;\
 n|@a n = 3|0..32768|E15;\
-a b|@a a < 0 & b < 0|0..316|E15";
+a b|@a a < 0 & b < 0|0..30|960";
 
 #[test]
 fn queries_are_answered(rt: HostRuntime) -> Result<(), Fail> {
@@ -115,7 +120,7 @@ fn queries_are_answered(rt: HostRuntime) -> Result<(), Fail> {
         assert!(rt; is_wanted(alloc, &ended, want)?, "{row}");
         count = count.saturating_add(1);
     }
-    assert_eq!(rt; count, 47);
+    assert_eq!(rt; count, 52);
     Ok(())
 }
 
@@ -149,7 +154,7 @@ fn limits_are_exact(rt: HostRuntime) -> Result<(), Fail> {
         let ended = outcome(alloc, "solve/m", text.as_bytes())?;
         assert!(rt; is_wanted(alloc, &ended, want)?, "{count} times");
     }
-    // Sixteen constants with two values each are answered, and seventeen are too many.
+    // Sixteen constants with two values each, and then seventeen.
     let sixteen = "a b c d e f g h i j k l m n o p";
     let sum = "a+b+c+d+e+f+g+h+i+j+k+l+m+n+o+p";
     let axiom = format!(in alloc; "@a {sum} > 16")?;
@@ -160,7 +165,14 @@ fn limits_are_exact(rt: HostRuntime) -> Result<(), Fail> {
     let axiom = format!(in alloc; "@a {sum}+q > 17")?;
     let text = model(alloc, constants.as_str(), axiom.as_str(), "0..1")?;
     let ended = outcome(alloc, "solve/m", text.as_bytes())?;
-    assert!(rt; is_wanted(alloc, &ended, "E15")?);
+    assert!(rt;
+        ended
+            .0
+            .as_slice()
+            .starts_with(b"query axioms\nundecided 100000\ntree 1\n")
+    );
+    assert_eq!(rt; lines_with(ended.0.as_slice(), "s c"), 100000);
+    assert_eq!(rt; ended.1, Status::Undecided);
     // A text of 65,536 bytes is read, and one more is too many.
     let mut text = model(alloc, "n", "@a n = 3", "0..5")?;
     let blanks = repeated(alloc, " ", "", 65536usize.saturating_sub(text.len()))?;

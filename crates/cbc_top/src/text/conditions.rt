@@ -90,7 +90,8 @@ fn summand_uses(summand: &Summand, name: &str) -> bool
     match summand {
         Summand::Number(_) => false,
         Summand::Constant(other) => other.as_str() == name,
-        Summand::Product(_, other) => other.as_str() == name,
+        Summand::Multiple(_, other) => other.as_str() == name,
+        Summand::Product(first, second) => first.as_str() == name || second.as_str() == name,
     }
 }
 
@@ -190,7 +191,10 @@ fn knows_summand(names: &[Name], summand: &Summand) -> bool
     match summand {
         Summand::Number(_) => true,
         Summand::Constant(name) => is_among(names, name.as_str()),
-        Summand::Product(_, name) => is_among(names, name.as_str()),
+        Summand::Multiple(_, name) => is_among(names, name.as_str()),
+        Summand::Product(first, second) => {
+            is_among(names, first.as_str()) && is_among(names, second.as_str())
+        }
     }
 }
 
@@ -348,30 +352,6 @@ fn bound_of(bound: Bound) -> Option<i64>
     (-32768 <= value && value <= 32767).then_some(value)
 }
 
-/// How many numbers a scope within -32768..=32767 has.
-fn width_of(lo: i64, hi: i64) -> u64
-    requires { (pos 0 ≤ℤ (lo +ℤ pos 32768)) × (lo ≤ℤ hi) × (hi ≤ℤ pos 32767) }
-    ensures width { result ≡ int_gap lo (hi +ℤ pos 1) }
-    ensures some { (1 ≤ result) × (result ≤ 65536) }
-{
-    (hi - lo + 1) as u64
-}
-
-/// Whether so many constants have at most 100,000 valuations, each with so many values.
-fn are_few(width: u64, constants: usize) -> bool
-    requires { (1 ≤ width) × (width ≤ 65536) }
-    ensures { result ≡ nat_le (width ^ constants) 100000 }
-{
-    let mut total = 1u64;
-    for _ in 0..constants {
-        total = total * width;
-        if total > 100000 {
-            return false;
-        }
-    }
-    true
-}
-
 /// The ends of the scope, if it is within -32768..=32767 and not empty.
 #[tactic(auto, using(crate::proofs::ScopeLaws::low_outside, crate::proofs::ScopeLaws::high_outside))]
 pub fn ends_of(text: &ModelText) -> Option<(i64, i64)>
@@ -384,19 +364,15 @@ pub fn ends_of(text: &ModelText) -> Option<(i64, i64)>
     (lo <= hi).then_some((lo, hi))
 }
 
-/// Whether the scope is one of the language and its constants have at most 100,000 valuations.
-fn has_few_valuations(text: &ModelText) -> bool
-    ensures { result ≡ (grammar.has_scope text.now && nat_le (grammar.valuations text.now) 100000) }
+fn has_scope(text: &ModelText) -> bool
+    ensures { result ≡ grammar.has_scope text.now }
 {
-    match ends_of(text) {
-        Some((lo, hi)) => are_few(width_of(lo, hi), text.context.constants.len()),
-        None => false,
-    }
+    ends_of(text).is_some()
 }
 
 /// Whether the text keeps the conditions that stand beside the productions.
 pub fn is_well_formed(text: &ModelText) -> bool
     ensures { result ≡ grammar.is_well_formed text.now }
 {
-    has_constants(&text.context) && has_axioms(&text.context) && has_few_valuations(text)
+    has_constants(&text.context) && has_axioms(&text.context) && has_scope(text)
 }

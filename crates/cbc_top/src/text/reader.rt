@@ -132,12 +132,27 @@ fn factor_at(tokens: &[Token]) -> Option<(&Name, &[Token])>
 }
 
 /// A number, behind which a factor may stand.
-fn times(alloc: Global, n: i64, tokens: &[Token]) -> Result<(Summand, &[Token]), TextFault>
-    ensures { Gives (λ x. (x.0, x.1.now)) result (reading.times n tokens.now (reading.factor_at tokens.now)) }
+fn multiple(alloc: Global, n: i64, tokens: &[Token]) -> Result<(Summand, &[Token]), TextFault>
+    ensures { Gives (λ x. (x.0, x.1.now)) result (reading.multiple n tokens.now (reading.factor_at tokens.now)) }
 {
     match factor_at(tokens) {
-        Some((name, rest)) => Ok((Summand::Product(n, name.copied(alloc)?), rest)),
+        Some((name, rest)) => Ok((Summand::Multiple(n, name.copied(alloc)?), rest)),
         None => Ok((Summand::Number(n), tokens)),
+    }
+}
+
+/// A constant, behind which a factor may stand.
+fn product<'t>(
+    alloc: Global,
+    name: &Name,
+    tokens: &'t [Token],
+) -> Result<(Summand, &'t [Token]), TextFault>
+    ensures { Gives (λ x. (x.0, x.1.now)) result (reading.product name.now tokens.now (reading.factor_at tokens.now)) }
+{
+    let name = name.copied(alloc)?;
+    match factor_at(tokens) {
+        Some((other, rest)) => Ok((Summand::Product(name, other.copied(alloc)?), rest)),
+        None => Ok((Summand::Constant(name), tokens)),
     }
 }
 
@@ -146,8 +161,8 @@ fn summand_at(alloc: Global, tokens: &[Token]) -> Result<(Summand, &[Token]), Te
     ensures { Gives (λ x. (x.0, x.1.now)) result (reading.summand_at tokens.now) }
 {
     match tokens {
-        [Token::Number(n), rest @ ..] => times(alloc, *n, rest),
-        [Token::Word(name), rest @ ..] => Ok((Summand::Constant(name.copied(alloc)?), rest)),
+        [Token::Number(n), rest @ ..] => multiple(alloc, *n, rest),
+        [Token::Word(name), rest @ ..] => product(alloc, name, rest),
         _ => Err(TextFault::NotYet),
     }
 }

@@ -23,7 +23,9 @@ pub enum Summand {
     Number(i64),
     Constant(Name),
     /// A number times a constant.
-    Product(i64, Name),
+    Multiple(i64, Name),
+    /// A constant times a constant.
+    Product(Name, Name),
 }
 
 /// Its parts are added and subtracted from the left.

@@ -1,0 +1,7 @@
+use Rattle.std.proofs.Common.{◌≡◌, drop}
+use Rattle.std.specs.List.{list_all}
+use Rattle.eb_meaning.specs.Meaning.{is_true, truth_in}
+use Rattle.branch_search.proofs.depth_first.untrue_at.Given as goal
+
+abbrev pub invariant-loop-k : goal.invariant-loop-k
+invariant-loop-k l = list_all (λ fact. is_true (truth_in l.slots fact)) l.facts ≡ list_all (λ fact. is_true (truth_in l.slots fact)) (drop l.k l.facts)

@@ -1,7 +1,0 @@
-use Rattle.std.proofs.Common.{◌≡◌, drop}
-use Rattle.std.specs.List.{list_all}
-use Rattle.cbc_top.specs.Meaning.{is_true, truth_in}
-use Rattle.cbc_top.proofs.branch_search.untrue_at.Given as goal
-
-abbrev pub invariant-loop-k : goal.invariant-loop-k
-invariant-loop-k l = list_all (λ fact. is_true (truth_in l.slots fact)) l.facts ≡ list_all (λ fact. is_true (truth_in l.slots fact)) (drop l.k l.facts)

@@ -1,0 +1,3 @@
+pub mod FirstStores
+pub mod BoxLaws
+pub mod Parts

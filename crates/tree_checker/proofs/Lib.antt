@@ -1,0 +1,12 @@
+pub mod Forests
+pub mod Steps
+pub mod Runs
+pub mod Places
+pub mod Cuts
+pub mod Sound
+pub mod Budget
+pub mod TextLaws
+pub mod OneVerdict
+pub mod Leads
+pub mod PrintedTrees
+pub mod SmallNumbers
