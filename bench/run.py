@@ -1,8 +1,9 @@
 #!/usr/bin/env python3
-"""Times `solve` and `check`, and the operators on large sets and relations.
+"""Times `solve` and `check`, the lexer, the formula reader, and the operators on large sets and
+relations.
 
-Use: bench/run.py, after `rt run` in crates/cbc_program and in crates/value_times has built the
-programs there. Each row runs once, in a process of its own, and prints wall time, processor time
+Use: bench/run.py, after `rt run` in crates/cbc_program, crates/value_times and crates/formula_times
+has built the programs there. Each row runs once, in a process of its own, and prints wall time, processor time
 and peak memory. (A process this small shows the memory of the script that started it, some 14 MiB.)
 """
 import os
@@ -38,12 +39,24 @@ def rows():
 def wide_rows():
     """Models with more valuations than the budget, and the budget."""
     wide = model(["a", "b", "c"], "@a a * b < c - 2147483646", -32768, 32767)
-    for budget in (100_000, 200_000, 1_000_000):
+    for budget in (100_000, 200_000, 800_000, 1_000_000):
         yield f"3 constants, budget {budget}", wide, budget
     constants = [f"c{k}" for k in range(3_500)]
     parts = [" + ".join(constants[k : k + 50]) for k in range(0, 3_500, 50)]
     axioms = " ".join(f"@a{k} {part} < 0" for k, part in enumerate(parts))
     yield "3,500 constants, budget 100000", model(constants, axioms, 0, 1), 100_000
+
+
+def token_rows():
+    """Texts of 4 MiB that are no model of today's language, so that their time is that of the tokens."""
+    size = 4 << 20
+    comment = "// a comment up to the end of its line\n"
+    comments = comment * (size // len(comment))
+    yield "4 MiB of comments", comments
+    block = "/* a comment */ "
+    yield "4 MiB of /* */ and a bad token", (block * (size // len(block)))[: size - 16] + " ?"
+    axiom = "@a n ≤ 4 ∧ n + 12 * k ≥ 4\n"
+    yield "4 MiB of tokens and a bad token", axiom * ((size - 2) // len(axiom.encode())) + "?"
 
 
 def timed(words, to=None):
@@ -77,6 +90,7 @@ def show_check(program, model_file, tree_file, name):
 def main():
     program = os.path.join(TOP, "crates/cbc_program/out/cbc_program")
     operators = os.path.join(TOP, "crates/value_times/out/value_times")
+    formulas = os.path.join(TOP, "crates/formula_times/out/formula_times")
     print(f"{'row':36} {'lines':>8} {'seconds':>8} {'cpu':>8} {'MiB':>6} status")
     for name, text in rows():
         with tempfile.NamedTemporaryFile("w", suffix=".eb") as file:
@@ -92,6 +106,17 @@ def main():
             with open(tree_file, "wb") as file:
                 show(name, timed([program, "solve", model_file, "--budget", str(budget)], file))
             show_check(program, model_file, tree_file, name)
+    for name, text in token_rows():
+        with tempfile.NamedTemporaryFile("w", suffix=".eb") as file:
+            file.write(text)
+            file.flush()
+            show(name, timed([program, "solve", file.name]))
+    for kind, name in (
+        ("members", "formula: a set of 100,000 members"),
+        ("conjuncts", "formula: 131,072 conjuncts by twos"),
+        ("chain", "formula: 100,000 conjuncts, too deep"),
+    ):
+        show(name, timed([formulas, kind]))
     for operator, name in (
         ("values", "all sets of 16 atoms, 65,536 values"),
         ("union", "union of relations of 4,000 pairs"),

@@ -1,8 +1,4 @@
-pub mod ByteRuns
-pub mod Lexemes
-pub mod FirstBytes
-pub mod TokenLaws
-pub mod LexerLaws
+pub mod Bools
 pub mod Turns
 pub mod ReadingSound
 pub mod ReadingComplete
@@ -14,5 +10,5 @@ pub mod Witnesses
 pub mod Runs
 pub mod Texts
 pub mod TreeTexts
-pub mod Commands
 pub mod PrintedVerdicts
+pub mod Joins

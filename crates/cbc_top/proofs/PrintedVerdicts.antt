@@ -19,8 +19,9 @@ use Rattle.cbc_top.specs.declared.text.syntax.ModelText.{ModelText}
 use Rattle.cbc_top.specs.Grammar.{IsText, bound_value, axioms_tokens, conjunction_tokens, tokens_of}
 use Rattle.cbc_top.specs.Models.{problem_of, scope_of, axiom_fact}
 use Rattle.cbc_top.specs.Answers.{refuted_text, undecided_text}
-use Rattle.cbc_top.proofs.Commands.{own}
-use Rattle.cbc_top.proofs.Texts.{few_tokens}
+use Rattle.std.specs.Str.Parse.{digits_value}
+use Rattle.std.proofs.lemmas.Str.Parse.{IsNumeralModel, numerals_by_value, tells_all_ascii_digits}
+use Rattle.cbc_top.proofs.Texts.{Slices, few_tokens}
 use Rattle.cbc_top.proofs.Witnesses.{problem_integers, well_formed_scope, scope_filled, few_choices}
 
 -- ---- the numbers of a text are small
@@ -36,13 +37,11 @@ length-facts : (names : List (List ℕ)) (as' : List Axiom) → length (map (axi
 length-facts names [] = refl
 length-facts names (a ∷ as') = ap suc (length-facts names as')
 
-few_facts : (text : List ℕ) (t : ModelText) → IsText text t → length (problem_of t).facts ≤ 2 ^ 62
-few_facts text t is =
-    let tokens = few_tokens is.tokens text is.are_tokens in
+few_facts : Slices → (text : List ℕ) (t : ModelText) → IsText text t → length (problem_of t).facts ≤ 2 ^ 62
+few_facts slices text t is =
+    let tokens = few_tokens slices text t is in
     let axioms = axioms_in_tokens t in
     let facts = length-facts t.context.constants t.context.axioms in
-    let same : length is.tokens ≡ length (tokens_of t) = ap length is.derived in
-    let short = is.short in
     omega arith
 
 low_small : (lo hi : ℤ) → (int_le (negsuc 32767) lo && int_le lo hi && int_le hi (pos 32767)) ≡ true → in_range lo ≡ true
@@ -52,6 +51,9 @@ high_small : (lo hi : ℤ) → (int_le (negsuc 32767) lo && int_le lo hi && int_
 high_small lo hi h = grind (arith, ints)
 
 -- ---- the headers
+
+own : IsNumeralModel (λ ds. all_ascii_digits ds ≡ true) (digits_value 10)
+own = numerals_by_value _ tells_all_ascii_digits
 
 no_feed : (digits : List ℕ) → all_ascii_digits digits ≡ true → is_one_line digits ≡ true
 no_feed [] h = refl
@@ -74,16 +76,16 @@ SmallTrees = (scope : Scope) → (problem : Problem) → (first : Store) → (tr
 abbrev pub PrintedTexts : Type 0
 PrintedTexts = (problem : Problem) → (first : Store) → (text : List ℕ) → (count : ℕ) → IsPrinted (task_of problem first) text count → IsWholeText (task_of problem first) text count
 
-are_small : SmallTrees → (text : List ℕ) (t : ModelText) (first : Store) (tree : Tree) → IsText text t → IsFirst (scope_of t) (problem_of t).choices first → Holds (problem_of t).facts first tree
+are_small : SmallTrees → Slices → (text : List ℕ) (t : ModelText) (first : Store) (tree : Tree) → IsText text t → IsFirst (scope_of t) (problem_of t).choices first → Holds (problem_of t).facts first tree
     → list_all has_small_numbers (lines_of tree) ≡ true
-are_small small text t first tree is is_first holds =
+are_small small slices text t first tree is is_first holds =
     let scope = well_formed_scope t is.well_formed in
     small (scope_of t) (problem_of t) first tree (problem_integers t) (scope_filled t scope) (low_small (bound_value t.lo) (bound_value t.hi) scope) (high_small (bound_value t.lo) (bound_value t.hi) scope)
-    (few_choices text t is) (few_facts text t is) is_first holds
+    (few_choices slices text t is) (few_facts slices text t is) is_first holds
 
-pub refuted_verdict : SmallTrees → PrintedTexts → (text : List ℕ) (t : ModelText) (budget : ℕ) (tree : Tree) → IsText text t → IsRefutation (scope_of t) (problem_of t) budget tree
+pub refuted_verdict : SmallTrees → PrintedTexts → Slices → (text : List ℕ) (t : ModelText) (budget : ℕ) (tree : Tree) → IsText text t → IsRefutation (scope_of t) (problem_of t) budget tree
     → IsVerdict (scope_of t) (problem_of t) (refuted_text tree) verdict.Accepted
-refuted_verdict small printed text t budget tree is r = (
+refuted_verdict small printed slices text t budget tree is r = (
   r.first,
   r.is_first,
   printed (problem_of t) r.first (refuted_text tree) 0 (record {
@@ -91,15 +93,15 @@ refuted_verdict small printed text t budget tree is r = (
     are_headers = refl;
     tree = tree;
     holds = r.holds;
-    small = are_small small text t r.first tree is r.is_first r.holds;
+    small = are_small small slices text t r.first tree is r.is_first r.holds;
     printed = refl;
     open_lines = sym r.closed;
   }),
 )
 
-pub undecided_verdict : SmallTrees → PrintedTexts → (text : List ℕ) (t : ModelText) (budget : ℕ) (tree : Tree) → budget < 2 ^ 64 → IsText text t → IsUndecided (scope_of t) (problem_of t) budget tree
+pub undecided_verdict : SmallTrees → PrintedTexts → Slices → (text : List ℕ) (t : ModelText) (budget : ℕ) (tree : Tree) → budget < 2 ^ 64 → IsText text t → IsUndecided (scope_of t) (problem_of t) budget tree
     → IsVerdict (scope_of t) (problem_of t) (undecided_text budget tree) (verdict.Partial (opens (lines_of tree)))
-undecided_verdict small printed text t budget tree fits is u = (
+undecided_verdict small printed slices text t budget tree fits is u = (
   u.first,
   u.is_first,
   (
@@ -109,7 +111,7 @@ undecided_verdict small printed text t budget tree fits is u = (
       are_headers = rw (budget_header budget fits) refl;
       tree = tree;
       holds = u.holds;
-      small = are_small small text t u.first tree is u.is_first u.holds;
+      small = are_small small slices text t u.first tree is u.is_first u.holds;
       printed = ap (λ z. codes "query axioms\nundecided " ++ z) (sym (append_assoc (decimal budget) (10 ∷ []) (tree_text tree)));
       open_lines = refl;
     }),

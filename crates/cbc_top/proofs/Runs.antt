@@ -1,6 +1,6 @@
 -- What a run wrote.
-use Rattle.std.proofs.Common.{◌≡◌, ◌≢◌, sym, subst, ℕ, ◌<◌, ◌≤◌, List, length, take, drop, inl, inr, arith, refl, true, false}
-use Rattle.std.specs.Prelude.{Option, Some, None, Ok, Err, nat_le, MatchBool}
+use Rattle.std.proofs.Common.{◌≡◌, ◌≢◌, sym, subst, ap, Result, ℕ, ◌<◌, ◌≤◌, List, length, take, drop, inl, inr, arith, refl, true, false}
+use Rattle.std.specs.Prelude.{Option, Some, None, Ok, Err, nat_le}
 use Rattle.std.specs.Io.KnownBytes.{Appends}
 use Rattle.std.proofs.lemmas.List.{take-append-drop, length-drop}
 use Rattle.cbc_outside.specs.Outside.{Files, lookup, IsLonger}
@@ -8,15 +8,20 @@ use Rattle.cbc_outside.specs.Outside as outside
 use Rattle.cbc_top.specs.declared.status.Status.{Status}
 use Rattle.cbc_top.specs.declared.status.Status.TheVariants.{Decided, NotHeld, Refused, Undecided, ReadFault, WriteFault, Memory}
 use Rattle.cbc_top.specs.declared.refusal.Refusal.{Refusal}
-use Rattle.cbc_top.specs.declared.refusal.Refusal.TheVariants.{TooLong, NotYet}
+use Rattle.cbc_top.specs.declared.refusal.Refusal.TheVariants.{Words, TooLong, NotUtf8, BadToken, NotYet}
 use Rattle.cbc_top.specs.declared.top.Stop.{Stop}
 use Rattle.cbc_top.specs.declared.top.Stop.TheVariants as stop
 use Rattle.cbc_top.specs.declared.text.syntax.ModelText.{ModelText}
-use Rattle.cbc_top.specs.Grammar.{IsText}
+use Rattle.cbc_top.specs.declared.text.fault.TextFault.{TextFault}
+use Rattle.cbc_top.specs.declared.text.fault.TextFault.TheVariants as faults
+use Rattle.cbc_top.specs.Grammar.{IsText, IsFaultOf}
 use Rattle.cbc_top.specs.Answers.{IsJudged}
-use Rattle.cbc_top.specs.declared.words.Action.TheVariants as action_of
-use Rattle.cbc_top.specs.Run.{IsWhole, RefusesModel, OnModel, OnTree, Run, Begins, ForFiles, Writes, IsModelFile, JudgesModelFirst}
-use Rattle.cbc_top.specs.Due.{ReadsModel, ReadsTree, DueBy}
+use Rattle.cbc_words.specs.declared.action.Action.TheVariants as action
+use Rattle.cbc_words.specs.declared.action.Command.{Command}
+use Rattle.cbc_words.specs.Words.{command_of}
+use Rattle.cbc_top.specs.ModelFiles.{ModelBytes, missing, too_long, whole, joined, IsOneOf}
+use Rattle.cbc_top.specs.Run.{IsWhole, refusal_text, RefusesText, OnModel, OnTree, OnAction, OnCommand, Run, Begins, ForFiles, Writes, IsModel, ActsInOrder}
+use Rattle.cbc_top.specs.Due.{stop_of, ReadsModel, ReadsTree, DueBy}
 
 pub only_write : (s : Status) → (IsWhole s → ⊥) → (s ≢ ReadFault) × (s ≢ Memory) → s ≡ WriteFault
 only_write Decided h o = absurd (h tt)
@@ -48,35 +53,38 @@ is_at_most n m h = grind arith
 is_not_at_most : (n m : ℕ) → m < n → nat_le n m ≡ false
 is_not_at_most n m h = grind arith
 
--- ---- the model of a file
+-- ---- the model of some bytes
 
-model_read : (file : Option (List ℕ)) (text : List ℕ) (t : ModelText) → file ≡ Some text → IsText text t → ReadsModel file (Ok t)
-model_read file text t e is = subst (λ z. ReadsModel z (Ok t)) (sym e) is
+model_read : (bytes : ModelBytes) (text : List ℕ) (t : ModelText) → bytes ≡ whole text → IsText text t → ReadsModel bytes (Ok t)
+model_read bytes text t e is = subst (λ z. ReadsModel z (Ok t)) (sym e) is
 
-model_refused : (file : Option (List ℕ)) (text : List ℕ) (refusal : Refusal) → file ≡ Some text → RefusesModel text refusal → ReadsModel file (Err (stop.Refused refusal))
-model_refused file text refusal e refuses = subst (λ z. ReadsModel z (Err (stop.Refused refusal))) (sym e) refuses
+model_refused : (bytes : ModelBytes) (text : List ℕ) (refusal : Refusal) → bytes ≡ whole text → RefusesText text refusal → ReadsModel bytes (Err (stop.Refused refusal))
+model_refused bytes text refusal e refuses = subst (λ z. ReadsModel z (Err (stop.Refused refusal))) (sym e) refuses
 
-pub model_of_file : (files : Option Files) (file text : List ℕ) (t : ModelText) → outside.IsWhole files file text → IsText text t
-    → ForFiles files (λ fs. ReadsModel (lookup fs file) (Ok t))
-model_of_file None file text t whole is = tt
-model_of_file (Some fs) file text t whole is = model_read (lookup fs file) text t whole is
+model_long : (bytes : ModelBytes) → bytes ≡ too_long → ReadsModel bytes (Err (stop.Refused TooLong))
+model_long bytes e = subst (λ z. ReadsModel z (Err (stop.Refused TooLong))) (sym e) refl
 
-not_language : (text : List ℕ) → length text ≤ 4194304 → ((t : ModelText) → IsText text t → ⊥) → RefusesModel text NotYet
-not_language text within none =
-    subst (λ z. MatchBool z (((t : ModelText) → IsText text t → ⊥) × (NotYet ≡ NotYet)) (NotYet ≡ TooLong)) (sym (is_at_most (length text) 4194304 within)) (none, refl)
+pub model_of_files : (files : Option Files) (names : List (List ℕ)) (text : List ℕ) (t : ModelText) → ForFiles files (λ fs. joined fs names ≡ whole text) → IsText text t
+    → ForFiles files (λ fs. ReadsModel (joined fs names) (Ok t))
+model_of_files None names text t e is = tt
+model_of_files (Some fs) names text t e is = model_read (joined fs names) text t e is
 
-too_long : (text : List ℕ) → 4194304 < length text → RefusesModel text TooLong
-too_long text longer =
-    subst (λ z. MatchBool z (((t : ModelText) → IsText text t → ⊥) × (TooLong ≡ NotYet)) (TooLong ≡ TooLong)) (sym (is_not_at_most (length text) 4194304 longer)) refl
+-- a text is refused for its fault
 
-pub refused_model : (files : Option Files) (file text : List ℕ) → outside.IsWhole files file text → length text ≤ 4194304 → ((t : ModelText) → IsText text t → ⊥)
-    → ForFiles files (λ fs. ReadsModel (lookup fs file) (Err (stop.Refused NotYet)))
-refused_model None file text whole within none = tt
-refused_model (Some fs) file text whole within none = model_refused (lookup fs file) text NotYet whole (not_language text within none)
+model_faulty : (bytes : ModelBytes) (text : List ℕ) (fault : TextFault) → bytes ≡ whole text → IsFaultOf text fault → ReadsModel bytes (Err (stop_of fault))
+model_faulty bytes text faults.NotUtf8 e cause = model_refused bytes text NotUtf8 e cause
+model_faulty bytes text (faults.BadToken place) e cause = model_refused bytes text (BadToken place) e cause
+model_faulty bytes text faults.NotYet e cause = model_refused bytes text NotYet e cause
+model_faulty bytes text faults.Memory e cause = tt
 
-pub long_model : (files : Option Files) (file : List ℕ) → IsLonger files file 4194304 → ForFiles files (λ fs. ReadsModel (lookup fs file) (Err (stop.Refused TooLong)))
-long_model None file longer = tt
-long_model (Some fs) file longer = model_refused (lookup fs file) longer.0 TooLong longer.1 (too_long longer.0 longer.2)
+pub faulty_model : (files : Option Files) (names : List (List ℕ)) (text : List ℕ) (fault : TextFault) → ForFiles files (λ fs. joined fs names ≡ whole text) → IsFaultOf text fault
+    → ForFiles files (λ fs. ReadsModel (joined fs names) (Err (stop_of fault)))
+faulty_model None names text fault e cause = tt
+faulty_model (Some fs) names text fault e cause = model_faulty (joined fs names) text fault e cause
+
+pub long_model : (files : Option Files) (names : List (List ℕ)) → ForFiles files (λ fs. joined fs names ≡ too_long) → ForFiles files (λ fs. ReadsModel (joined fs names) (Err (stop.Refused TooLong)))
+long_model None names e = tt
+long_model (Some fs) names e = model_long (joined fs names) e
 
 -- ---- the text of a tree's file
 
@@ -87,8 +95,8 @@ tree_refused : (file : Option (List ℕ)) (tree : List ℕ) → file ≡ Some tr
 tree_refused file tree e longer = subst (λ z. ReadsTree z (Err (stop.Refused NotYet))) (sym e) (refl, is_not_at_most (length tree) 16777216 longer)
 
 pub tree_of_file : (files : Option Files) (file tree : List ℕ) → outside.IsWhole files file tree → length tree ≤ 16777216 → ForFiles files (λ fs. ReadsTree (lookup fs file) (Ok tree))
-tree_of_file None file tree whole within = tt
-tree_of_file (Some fs) file tree whole within = tree_read (lookup fs file) tree whole within
+tree_of_file None file tree is within = tt
+tree_of_file (Some fs) file tree is within = tree_read (lookup fs file) tree is within
 
 pub long_tree : (files : Option Files) (file : List ℕ) → IsLonger files file 16777216 → ForFiles files (λ fs. ReadsTree (lookup fs file) (Err (stop.Refused NotYet)))
 long_tree None file longer = tt
@@ -96,27 +104,29 @@ long_tree (Some fs) file longer = tree_refused (lookup fs file) longer.0 longer.
 
 -- ---- what is due on them
 
-on_model : (Due : ModelText → List ℕ → Status → Type 0) (file : Option (List ℕ)) (t : ModelText) (bytes : List ℕ) (status : Status) → ReadsModel file (Ok t) → Due t bytes status
-    → OnModel Due file bytes status
-on_model Due None t bytes status reads due = absurd reads
-on_model Due (Some text) t bytes status reads due = inl (t, reads, due)
+on_model : (Due : ModelText → List ℕ → Status → Type 0) (bytes : ModelBytes) (t : ModelText) (out : List ℕ) (status : Status) → ReadsModel bytes (Ok t) → Due t out status
+    → OnModel Due bytes out status
+on_model Due missing t out status reads due = absurd reads
+on_model Due too_long t out status reads due = absurd reads
+on_model Due (whole text) t out status reads due = inl (t, reads, due)
 
-pub due_on_model : (files : Option Files) (file : List ℕ) (Due : Files → ModelText → List ℕ → Status → Type 0) (t : ModelText) (bytes : List ℕ) (status : Status)
-    → ForFiles files (λ fs. ReadsModel (lookup fs file) (Ok t)) → ForFiles files (λ fs. Due fs t bytes status) → ForFiles files (λ fs. OnModel (Due fs) (lookup fs file) bytes status)
-due_on_model None file Due t bytes status reads due = tt
-due_on_model (Some fs) file Due t bytes status reads due = on_model (Due fs) (lookup fs file) t bytes status reads due
+pub due_on_model : (files : Option Files) (names : List (List ℕ)) (Due : Files → ModelText → List ℕ → Status → Type 0) (t : ModelText) (out : List ℕ) (status : Status)
+    → ForFiles files (λ fs. ReadsModel (joined fs names) (Ok t)) → ForFiles files (λ fs. Due fs t out status) → ForFiles files (λ fs. OnModel (Due fs) (joined fs names) out status)
+due_on_model None names Due t out status reads due = tt
+due_on_model (Some fs) names Due t out status reads due = on_model (Due fs) (joined fs names) t out status reads due
 
 -- a model that wasn't read
-not_read : (Due : ModelText → List ℕ → Status → Type 0) (file : Option (List ℕ)) (e : Stop) → ReadsModel file (Err e) → DueBy (OnModel Due file) (Err e)
-not_read Due file stop.ReadFault reads = tt
-not_read Due file stop.Memory reads = tt
-not_read Due None (stop.Refused refusal) reads = absurd reads
-not_read Due (Some text) (stop.Refused refusal) reads = inr (refusal, reads, (refl, refl))
+not_read : (Due : ModelText → List ℕ → Status → Type 0) (bytes : ModelBytes) (e : Stop) → ReadsModel bytes (Err e) → DueBy (OnModel Due bytes) (Err e)
+not_read Due bytes stop.ReadFault reads = tt
+not_read Due bytes stop.Memory reads = tt
+not_read Due missing (stop.Refused refusal) reads = absurd reads
+not_read Due too_long (stop.Refused refusal) reads = (ap refusal_text reads, refl)
+not_read Due (whole text) (stop.Refused refusal) reads = inr (refusal, reads, (refl, refl))
 
-pub due_without_model : (files : Option Files) (file : List ℕ) (Due : Files → ModelText → List ℕ → Status → Type 0) (e : Stop)
-    → ForFiles files (λ fs. ReadsModel (lookup fs file) (Err e)) → ForFiles files (λ fs. DueBy (OnModel (Due fs) (lookup fs file)) (Err e))
-due_without_model None file Due e reads = tt
-due_without_model (Some fs) file Due e reads = not_read (Due fs) (lookup fs file) e reads
+pub due_without_model : (files : Option Files) (names : List (List ℕ)) (Due : Files → ModelText → List ℕ → Status → Type 0) (e : Stop)
+    → ForFiles files (λ fs. ReadsModel (joined fs names) (Err e)) → ForFiles files (λ fs. DueBy (OnModel (Due fs) (joined fs names)) (Err e))
+due_without_model None names Due e reads = tt
+due_without_model (Some fs) names Due e reads = not_read (Due fs) (joined fs names) e reads
 
 on_tree : (file : Option (List ℕ)) (t : ModelText) (tree bytes : List ℕ) (status : Status) → ReadsTree file (Ok tree) → IsJudged t tree bytes status → OnTree file t bytes status
 on_tree None t tree bytes status reads judged = absurd reads
@@ -134,15 +144,15 @@ tree_not_read None t (stop.Refused refusal) reads = absurd reads
 tree_not_read (Some text) t (stop.Refused refusal) reads = rw (reads.1, reads.0) (refl, refl)
 
 -- a model whose tree wasn't read
-without_tree : (model tree : Option (List ℕ)) (t : ModelText) (e : Stop) → ReadsModel model (Ok t) → DueBy (OnTree tree t) (Err e) → DueBy (OnModel (OnTree tree) model) (Err e)
+without_tree : (model : ModelBytes) (tree : Option (List ℕ)) (t : ModelText) (e : Stop) → ReadsModel model (Ok t) → DueBy (OnTree tree t) (Err e) → DueBy (OnModel (OnTree tree) model) (Err e)
 without_tree model tree t stop.ReadFault reads due = tt
 without_tree model tree t stop.Memory reads due = tt
 without_tree model tree t (stop.Refused refusal) reads due = on_model (OnTree tree) model t _ _ reads due
 
-pub due_without_tree : (files : Option Files) (file tree : List ℕ) (t : ModelText) (e : Stop) → ForFiles files (λ fs. ReadsModel (lookup fs file) (Ok t))
-    → ForFiles files (λ fs. ReadsTree (lookup fs tree) (Err e)) → ForFiles files (λ fs. DueBy (OnModel (OnTree (lookup fs tree)) (lookup fs file)) (Err e))
-due_without_tree None file tree t e reads unread = tt
-due_without_tree (Some fs) file tree t e reads unread = without_tree (lookup fs file) (lookup fs tree) t e reads (tree_not_read (lookup fs tree) t e unread)
+pub due_without_tree : (files : Option Files) (names : List (List ℕ)) (tree : List ℕ) (t : ModelText) (e : Stop) → ForFiles files (λ fs. ReadsModel (joined fs names) (Ok t))
+    → ForFiles files (λ fs. ReadsTree (lookup fs tree) (Err e)) → ForFiles files (λ fs. DueBy (OnModel (OnTree (lookup fs tree)) (joined fs names)) (Err e))
+due_without_tree None names tree t e reads unread = tt
+due_without_tree (Some fs) names tree t e reads unread = without_tree (joined fs names) (lookup fs tree) t e reads (tree_not_read (lookup fs tree) t e unread)
 
 -- a fact that needs no file
 pub always_due : (files : Option Files) (P : Type 0) → P → ForFiles files (λ fs. P)
@@ -151,19 +161,31 @@ always_due (Some fs) P p = p
 
 -- ---- where a file can't be read
 
-pub fails_at_model : (files : Option Files) (file tree : List ℕ) (name : Option (List ℕ)) → name ≡ Some file → ForFiles files (λ fs. JudgesModelFirst (Some (action_of.Check file tree)) fs name)
-fails_at_model None file tree name e = tt
-fails_at_model (Some fs) file tree name e = inl e
+pub fails_at_model : (files : Option Files) (names : List (List ℕ)) (tree : List ℕ) (name : Option (List ℕ)) → IsOneOf names name → ForFiles files (λ fs. ActsInOrder (action.Check names tree) fs name)
+fails_at_model None names tree name is = tt
+fails_at_model (Some fs) names tree name is = inl is
 
-model_there : (file : Option (List ℕ)) (t : ModelText) → ReadsModel file (Ok t) → IsModelFile file
-model_there None t reads = absurd reads
-model_there (Some text) t reads = (t, reads)
+model_there : (bytes : ModelBytes) (t : ModelText) → ReadsModel bytes (Ok t) → IsModel bytes
+model_there missing t reads = absurd reads
+model_there too_long t reads = absurd reads
+model_there (whole text) t reads = (t, reads)
 
-pub fails_behind_model : (files : Option Files) (file tree : List ℕ) (name : Option (List ℕ)) (t : ModelText) → ForFiles files (λ fs. ReadsModel (lookup fs file) (Ok t))
-    → ForFiles files (λ fs. JudgesModelFirst (Some (action_of.Check file tree)) fs name)
-fails_behind_model None file tree name t reads = tt
-fails_behind_model (Some fs) file tree name t reads = inr (model_there (lookup fs file) t reads)
+pub fails_behind_model : (files : Option Files) (names : List (List ℕ)) (tree : List ℕ) (name : Option (List ℕ)) (t : ModelText) → ForFiles files (λ fs. ReadsModel (joined fs names) (Ok t))
+    → ForFiles files (λ fs. ActsInOrder (action.Check names tree) fs name)
+fails_behind_model None names tree name t reads = tt
+fails_behind_model (Some fs) names tree name t reads = inr (model_there (joined fs names) t reads)
 
-pub fails_at_solve : (files : Option Files) (file : List ℕ) (budget : ℕ) (name : Option (List ℕ)) → ForFiles files (λ fs. JudgesModelFirst (Some (action_of.Solve file budget)) fs name)
-fails_at_solve None file budget name = tt
-fails_at_solve (Some fs) file budget name = tt
+pub fails_at_solve : (files : Option Files) (names : List (List ℕ)) (name : Option (List ℕ)) → ForFiles files (λ fs. ActsInOrder (action.Solve names) fs name)
+fails_at_solve None names name = tt
+fails_at_solve (Some fs) names name = tt
+
+-- ---- what words ask for
+
+pub due_at_command : (files : Option Files) (words : List (List ℕ)) (command : Command) (result : Result (List ℕ × Status) Stop) → command_of words ≡ Some command
+    → ForFiles files (λ fs. DueBy (OnAction command.action command.budget fs) result) → ForFiles files (λ fs. DueBy (Run words fs) result)
+due_at_command None words command result e due = tt
+due_at_command (Some fs) words command result e due = subst (λ z. DueBy (OnCommand z fs) result) (sym e) due
+
+pub refused_command : (files : Option Files) (words : List (List ℕ)) → command_of words ≡ None → ForFiles files (λ fs. DueBy (Run words fs) (Err (stop.Refused Words)))
+refused_command None words e = tt
+refused_command (Some fs) words e = subst (λ z. DueBy (OnCommand z fs) (Err (stop.Refused Words))) (sym e) (refl, refl)

@@ -1,48 +1,28 @@
 -- A text has no more tokens than bytes, and so few constants.
-use Rattle.std.proofs.Common.{◌≡◌, ◌∙◌, ℕ, ◌+◌, ◌≤◌, ◌<◌, List, [], ◌∷◌, length, ap, refl, arith, length-append, Bool, true, false, lit<}
-use Rattle.cbc_top.specs.declared.text.tokens.Sign.{Sign}
-use Rattle.cbc_top.specs.declared.text.tokens.Sign.TheVariants as s
-use Rattle.cbc_top.specs.declared.text.tokens.Token.{Token}
-use Rattle.cbc_top.specs.declared.text.tokens.Token.TheVariants as token
+use Rattle.std.proofs.Common.{◌≡◌, ◌∙◌, ap, refl, sym, ℕ, suc, ◌+◌, ◌≤◌, ◌<◌, List, [], ◌∷◌, length, arith, length-append}
+use Rattle.eb_lexer.specs.declared.token.Token.{Token}
+use Rattle.eb_lexer.specs.Tokens.{IsTokens, LieFrom}
 use Rattle.cbc_top.specs.declared.text.syntax.ModelText.{ModelText}
-use Rattle.cbc_top.specs.Tokens.{Spells, IsNext, IsTokens, sign_text, is_word, is_label, is_number}
-use Rattle.cbc_top.specs.Grammar.{IsText, word_tokens, tokens_of}
+use Rattle.cbc_top.specs.Grammar.{IsText, kinds, word_tokens, tokens_of}
 
-sign_some : (t : Sign) → 0 < length (sign_text t)
-sign_some s.Less = lit< tt
-sign_some s.AtMost = lit< tt
-sign_some s.Greater = lit< tt
-sign_some s.AtLeast = lit< tt
-sign_some s.Equal = lit< tt
-sign_some s.Unequal = lit< tt
-sign_some s.And = lit< tt
-sign_some s.Plus = lit< tt
-sign_some s.Minus = lit< tt
-sign_some s.Times = lit< tt
-sign_some s.Dots = lit< tt
+-- tokens lie in their text one behind another
+abbrev pub Slices : Type 0
+Slices = (ts : List Token) → (text : List ℕ) → IsTokens ts text → LieFrom 0 text ts
 
-has_some : (test : List ℕ → Bool) (text : List ℕ) → test [] ≡ false → test text ≡ true → 0 < length text
-has_some test [] none some = absurd (cc)
-has_some test (b ∷ bs) none some = omega arith
+few_from : (ts : List Token) (at : ℕ) (text : List ℕ) → LieFrom at text ts → at + length ts ≤ length text
+few_from [] at text h = omega arith
+few_from (t ∷ ts) at text h = let rest = few_from ts t.end text h.3 in omega arith
 
-spelling_some : (t : Token) (text : List ℕ) → Spells t text → 0 < length text
-spelling_some (token.Word w) text h = has_some is_word text refl h.1
-spelling_some (token.Label l) text h = has_some is_label text refl h.1
-spelling_some (token.Number n) text h = has_some is_number text refl h.0
-spelling_some (token.Sign t) text h = let some = sign_some t in omega (arith, ap length h)
+length-kinds : (ts : List Token) → length (kinds ts) ≡ length ts
+length-kinds [] = refl
+length-kinds (t ∷ ts) = ap suc (length-kinds ts)
 
-next_shorter : (t : Token) (text rest : List ℕ) → IsNext t text rest → length rest < length text
-next_shorter t text rest next =
-    let some = spelling_some t next.first.spelling next.first.spelled in
-    let whole : length text ≡ length next.blanks + length next.begun = ap length next.front ∙ length-append next.blanks next.begun in
-    let begun : length next.begun ≡ length next.first.spelling + length rest = ap length next.first.front ∙ length-append next.first.spelling rest in
-    omega arith
-
-pub few_tokens : (ts : List Token) (text : List ℕ) → IsTokens ts text → length ts ≤ length text
-few_tokens [] text h = omega arith
-few_tokens (t ∷ ts) text h =
-    let shorter = next_shorter t text h.0 h.1 in
-    let rest = few_tokens ts h.0 h.2 in
+-- a text of the language has no more tokens than bytes
+pub few_tokens : Slices → (text : List ℕ) (t : ModelText) → IsText text t → length (tokens_of t) ≤ 65536
+few_tokens slices text t is =
+    let lie = few_from is.tokens 0 text (slices is.tokens text is.are_tokens) in
+    let same : length (tokens_of t) ≡ length is.tokens = sym (ap length is.derived) ∙ length-kinds is.tokens in
+    let short = is.short in
     omega arith
 
 length-word_tokens : (ws : List (List ℕ)) → length (word_tokens ws) ≡ length ws
@@ -54,10 +34,8 @@ constants_tokens t =
     let words = length-word_tokens t.context.constants in
     simp (length-append) (omega arith)
 
-pub few_constants : (text : List ℕ) (t : ModelText) → IsText text t → length t.context.constants < 4294967296
-few_constants text t is =
-    let tokens = few_tokens is.tokens text is.are_tokens in
+pub few_constants : Slices → (text : List ℕ) (t : ModelText) → IsText text t → length t.context.constants < 4294967296
+few_constants slices text t is =
+    let tokens = few_tokens slices text t is in
     let constants = constants_tokens t in
-    let same : length is.tokens ≡ length (tokens_of t) = ap length is.derived in
-    let short = is.short in
     omega arith

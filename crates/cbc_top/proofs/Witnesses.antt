@@ -8,9 +8,9 @@ use Rattle.cbc_top.specs.Models.{problem_of, scope_of, choice_of}
 use Rattle.occ_store.specs.Stores.{HaveIntegers}
 use Rattle.cbc_top.specs.Answers.{IsWitness, IsAnswer, found_text}
 use Rattle.cbc_top.specs.declared.status.Status.TheVariants.{Decided}
-use Rattle.cbc_top.proofs.Texts.{few_constants}
+use Rattle.cbc_top.proofs.Texts.{Slices, few_constants}
 use Rattle.cbc_top.specs.Grammar.{IsText, bound_value, has_constants, has_axioms, has_scope, is_well_formed}
-use Rattle.cbc_top.proofs.ByteRuns.{both_true}
+use Rattle.cbc_top.proofs.Bools.{both_true}
 use Rattle.cbc_top.proofs.Narrowing.{facts_axioms, axioms_facts}
 
 pub solution_witness : (t : ModelText) (vs : List Value) → IsSolution (scope_of t) (problem_of t) vs → IsWitness t vs
@@ -43,5 +43,5 @@ length-choices : (names : List (List ℕ)) → length (map choice_of names) ≡ 
 length-choices [] = refl
 length-choices (name ∷ names) = ap suc (length-choices names)
 
-pub few_choices : (text : List ℕ) (t : ModelText) → IsText text t → length (problem_of t).choices < 4294967296
-few_choices text t is = let few = few_constants text t is in let same = length-choices t.context.constants in omega (arith, few, same)
+pub few_choices : Slices → (text : List ℕ) (t : ModelText) → IsText text t → length (problem_of t).choices < 4294967296
+few_choices slices text t is = let few = few_constants slices text t is in let same = length-choices t.context.constants in omega (arith, few, same)

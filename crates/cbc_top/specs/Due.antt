@@ -2,25 +2,37 @@
 use Rattle.std.specs.Prelude.{◌≡◌, ⊤, ℕ, nat_le, true, false, List, length, Option, Some, None, Result, Ok, Err}
 use Rattle.cbc_top.specs.declared.status.Status.{Status}
 use Rattle.cbc_top.specs.declared.status.Status.TheVariants.{Refused}
-use Rattle.cbc_top.specs.declared.refusal.Refusal.TheVariants.{NotYet}
+use Rattle.cbc_top.specs.declared.refusal.Refusal.TheVariants.{TooLong, NotUtf8, BadToken, NotYet}
 use Rattle.cbc_top.specs.declared.top.Stop.{Stop}
 use Rattle.cbc_top.specs.declared.top.Stop.TheVariants as stop
+use Rattle.cbc_top.specs.declared.text.fault.TextFault.{TextFault}
+use Rattle.cbc_top.specs.declared.text.fault.TextFault.TheVariants as fault
 use Rattle.cbc_top.specs.declared.text.syntax.ModelText.{ModelText}
 use Rattle.cbc_top.specs.Grammar.{IsText}
-use Rattle.cbc_top.specs.Run.{refusal_text, RefusesModel}
+use Rattle.cbc_top.specs.ModelFiles.{ModelBytes, missing, too_long, whole}
+use Rattle.cbc_top.specs.Run.{refusal_text, RefusesText}
 
 -- some text is read as this
 abbrev pub IsReadable : ModelText → Type 0
 IsReadable t = (text : List ℕ) × IsText text t
 
--- the model of a file, or why it is refused
-abbrev pub ReadsModel : Option (List ℕ) → Result ModelText Stop → Type 0
-ReadsModel file (Err stop.ReadFault) = ⊤
-ReadsModel file (Err stop.Memory) = ⊤
-ReadsModel None (Ok t) = ⊥
-ReadsModel None (Err (stop.Refused refusal)) = ⊥
-ReadsModel (Some text) (Ok t) = IsText text t
-ReadsModel (Some text) (Err (stop.Refused refusal)) = RefusesModel text refusal
+-- how a fault of a text ends a run
+abbrev pub stop_of : TextFault → Stop
+stop_of fault.NotUtf8 = stop.Refused NotUtf8
+stop_of (fault.BadToken place) = stop.Refused (BadToken place)
+stop_of fault.NotYet = stop.Refused NotYet
+stop_of fault.Memory = stop.Memory
+
+-- the model of some bytes, or why it is refused
+abbrev pub ReadsModel : ModelBytes → Result ModelText Stop → Type 0
+ReadsModel bytes (Err stop.ReadFault) = ⊤
+ReadsModel bytes (Err stop.Memory) = ⊤
+ReadsModel missing (Ok t) = ⊥
+ReadsModel missing (Err (stop.Refused refusal)) = ⊥
+ReadsModel too_long (Ok t) = ⊥
+ReadsModel too_long (Err (stop.Refused refusal)) = refusal ≡ TooLong
+ReadsModel (whole text) (Ok t) = IsText text t
+ReadsModel (whole text) (Err (stop.Refused refusal)) = RefusesText text refusal
 
 -- the text of a tree's file, or that it is too long
 abbrev pub ReadsTree : Option (List ℕ) → Result (List ℕ) Stop → Type 0

@@ -1,17 +1,21 @@
--- Which texts are in the language. `tokens_of` has one case for each production:
+-- Which texts are in the language: those whose tokens are of these kinds. White space, comments and the spellings of the tokens
+-- are those of Event-B, after Métayer and Voisin, "The Event-B Mathematical Language" (2009). `tokens_of` has one case for each
+-- production. A text in quotes stands for the sign that it spells; `scope`, `int` and `queries` are no signs, and so identifiers.
 --
 --   text = "context" id "constants" id {id} "axioms" {label cmp {"&" cmp}} "end"
 --          "scope" "int" ["-"] num ".." ["-"] num "end" "queries" "axioms" "end"
 --   cmp  = sum ("<" | "<=" | ">" | ">=") sum | sum ("=" | "/=") num
 --   sum  = term {("+" | "-") term}
 --   term = num ["*" id] | id ["*" id]
-use Rattle.std.specs.Prelude.{◌≡◌, ℕ, ◌≤◌, Bool, true, false, not, ◌&&◌, nat_le, int_le, if◌then◌else◌, List, [], ◌∷◌, ◌++◌, map, length, codes, ℤ, pos, negsuc, ◌-ℤ◌}
+use Rattle.std.specs.Prelude.{◌≡◌, ⊤, ℕ, ◌≤◌, Bool, true, false, not, ◌&&◌, nat_le, int_le, if◌then◌else◌, List, [], ◌∷◌, ◌++◌, map, length, codes, ℤ, pos, negsuc, ◌-ℤ◌}
 use Rattle.std.specs.List.{list_all, list_any, flat_map}
-use Rattle.std.specs.Str.{bytes_eq}
-use Rattle.cbc_top.specs.declared.text.tokens.Sign.{Sign}
-use Rattle.cbc_top.specs.declared.text.tokens.Sign.TheVariants as s
-use Rattle.cbc_top.specs.declared.text.tokens.Token.{Token}
-use Rattle.cbc_top.specs.declared.text.tokens.Token.TheVariants as token
+use Rattle.std.specs.Str.{bytes_eq, IsUtf8}
+use Rattle.eb_lexer.specs.declared.token.Sign.{Sign}
+use Rattle.eb_lexer.specs.declared.token.Sign.TheVariants as s
+use Rattle.eb_lexer.specs.declared.token.Token.{Token}
+use Rattle.eb_lexer.specs.declared.token.TokenKind.{TokenKind}
+use Rattle.eb_lexer.specs.declared.token.TokenKind.TheVariants as kind
+use Rattle.eb_lexer.specs.Tokens.{IsTokens, IsBadAt}
 use Rattle.cbc_top.specs.declared.text.syntax.Relation.{Relation}
 use Rattle.cbc_top.specs.declared.text.syntax.Relation.TheVariants as r
 use Rattle.cbc_top.specs.declared.text.syntax.Direction.{Direction}
@@ -24,7 +28,8 @@ use Rattle.cbc_top.specs.declared.text.syntax.Axiom.{Axiom}
 use Rattle.cbc_top.specs.declared.text.syntax.Context.{Context}
 use Rattle.cbc_top.specs.declared.text.syntax.Bound.{Bound}
 use Rattle.cbc_top.specs.declared.text.syntax.ModelText.{ModelText}
-use Rattle.cbc_top.specs.Tokens.{IsTokens}
+use Rattle.cbc_top.specs.declared.text.fault.TextFault.{TextFault}
+use Rattle.cbc_top.specs.declared.text.fault.TextFault.TheVariants as fault
 
 -- The tokens of each production.
 
@@ -40,75 +45,62 @@ abbrev pub sign_of_direction : Direction → Sign
 sign_of_direction d.Plus = s.Plus
 sign_of_direction d.Minus = s.Minus
 
-abbrev pub summand_tokens : Summand → List Token
-summand_tokens (summand.Number n) = token.Number n ∷ []
-summand_tokens (summand.Constant x) = token.Word x ∷ []
-summand_tokens (summand.Multiple n x) = token.Number n ∷ token.Sign s.Times ∷ token.Word x ∷ []
-summand_tokens (summand.Product x y) = token.Word x ∷ token.Sign s.Times ∷ token.Word y ∷ []
+abbrev pub summand_tokens : Summand → List TokenKind
+summand_tokens (summand.Number n) = kind.Number n ∷ []
+summand_tokens (summand.Constant x) = kind.Word x ∷ []
+summand_tokens (summand.Multiple n x) = kind.Number n ∷ kind.Sign s.Times ∷ kind.Word x ∷ []
+summand_tokens (summand.Product x y) = kind.Word x ∷ kind.Sign s.Times ∷ kind.Word y ∷ []
 
-abbrev pub more_summands : List (Direction × Summand) → List Token
+abbrev pub more_summands : List (Direction × Summand) → List TokenKind
 more_summands [] = []
-more_summands (part ∷ parts) = token.Sign (sign_of_direction part.0) ∷ (summand_tokens part.1 ++ more_summands parts)
+more_summands (part ∷ parts) = kind.Sign (sign_of_direction part.0) ∷ (summand_tokens part.1 ++ more_summands parts)
 
-abbrev pub sum_tokens : Sum → List Token
+abbrev pub sum_tokens : Sum → List TokenKind
 sum_tokens sum = summand_tokens sum.first ++ more_summands sum.rest
 
-abbrev pub comparison_tokens : Comparison → List Token
-comparison_tokens c = sum_tokens c.left ++ (token.Sign (sign_of_relation c.relation) ∷ sum_tokens c.right)
+abbrev pub comparison_tokens : Comparison → List TokenKind
+comparison_tokens c = sum_tokens c.left ++ (kind.Sign (sign_of_relation c.relation) ∷ sum_tokens c.right)
 
-abbrev pub more_comparisons : List Comparison → List Token
+abbrev pub more_comparisons : List Comparison → List TokenKind
 more_comparisons [] = []
-more_comparisons (c ∷ cs) = token.Sign s.And ∷ (comparison_tokens c ++ more_comparisons cs)
+more_comparisons (c ∷ cs) = kind.Sign s.And ∷ (comparison_tokens c ++ more_comparisons cs)
 
-abbrev pub conjunction_tokens : List Comparison → List Token
+abbrev pub conjunction_tokens : List Comparison → List TokenKind
 conjunction_tokens [] = []
 conjunction_tokens (c ∷ cs) = comparison_tokens c ++ more_comparisons cs
 
-abbrev pub axioms_tokens : List Axiom → List Token
+abbrev pub axioms_tokens : List Axiom → List TokenKind
 axioms_tokens [] = []
-axioms_tokens (a ∷ as') = token.Label a.label ∷ (conjunction_tokens a.comparisons ++ axioms_tokens as')
+axioms_tokens (a ∷ as') = kind.Label a.label ∷ (conjunction_tokens a.comparisons ++ axioms_tokens as')
 
-abbrev pub word_tokens : List (List ℕ) → List Token
+abbrev pub word_tokens : List (List ℕ) → List TokenKind
 word_tokens [] = []
-word_tokens (w ∷ ws) = token.Word w ∷ word_tokens ws
+word_tokens (w ∷ ws) = kind.Word w ∷ word_tokens ws
 
-abbrev pub keyword : List ℕ → Token
-keyword word = token.Word word
+-- a word that only this language gives a meaning
+abbrev pub keyword : List ℕ → TokenKind
+keyword word = kind.Word word
 
-abbrev pub bound_tokens : Bound → List Token
-bound_tokens b = if b.is_negative then token.Sign s.Minus ∷ token.Number b.number ∷ [] else token.Number b.number ∷ []
+abbrev pub bound_tokens : Bound → List TokenKind
+bound_tokens b = if b.is_negative then kind.Sign s.Minus ∷ kind.Number b.number ∷ [] else kind.Number b.number ∷ []
 
-abbrev pub scope_tokens : Bound → Bound → List Token
+abbrev pub scope_tokens : Bound → Bound → List TokenKind
 scope_tokens lo hi =
-    keyword (codes "scope") ∷ keyword (codes "int") ∷ (bound_tokens lo ++ (token.Sign s.Dots ∷ (bound_tokens hi ++ (keyword (codes "end") ∷ []))))
+    keyword (codes "scope") ∷ keyword (codes "int") ∷ (bound_tokens lo ++ (kind.Sign s.UpTo ∷ (bound_tokens hi ++ (kind.Sign s.End ∷ []))))
 
-abbrev pub query_tokens : List Token
-query_tokens = keyword (codes "queries") ∷ keyword (codes "axioms") ∷ keyword (codes "end") ∷ []
+abbrev pub query_tokens : List TokenKind
+query_tokens = keyword (codes "queries") ∷ kind.Sign s.Axioms ∷ kind.Sign s.End ∷ []
 
-abbrev pub context_tokens : Context → List Token
+abbrev pub context_tokens : Context → List TokenKind
 context_tokens c =
-    keyword (codes "context") ∷ token.Word c.name ∷ keyword (codes "constants") ∷ (word_tokens c.constants
-    ++ (keyword (codes "axioms") ∷ (axioms_tokens c.axioms ++ (keyword (codes "end") ∷ []))))
+    kind.Sign s.Context ∷ kind.Word c.name ∷ kind.Sign s.Constants ∷ (word_tokens c.constants
+    ++ (kind.Sign s.Axioms ∷ (axioms_tokens c.axioms ++ (kind.Sign s.End ∷ []))))
 
-abbrev pub tokens_of : ModelText → List Token
+abbrev pub tokens_of : ModelText → List TokenKind
 tokens_of t = context_tokens t.context ++ (scope_tokens t.lo t.hi ++ query_tokens)
-
--- The words that are no identifiers.
-abbrev pub reserved : List (List ℕ)
-reserved =
-    codes "or" ∷ codes "not" ∷ codes "true" ∷ codes "false" ∷ codes "mod" ∷ codes "circ" ∷ codes "INT" ∷ codes "NAT" ∷ codes "NAT1"
-    ∷ codes "POW" ∷ codes "POW1" ∷ codes "UNION" ∷ codes "INTER" ∷ codes "BOOL" ∷ codes "TRUE" ∷ codes "FALSE" ∷ codes "card" ∷ codes "min"
-    ∷ codes "max" ∷ codes "dom" ∷ codes "ran" ∷ codes "union" ∷ codes "inter" ∷ codes "bool" ∷ codes "finite" ∷ codes "partition"
-    ∷ codes "id" ∷ codes "prj1" ∷ codes "prj2" ∷ codes "context" ∷ codes "extends" ∷ codes "sets" ∷ codes "constants" ∷ codes "axioms"
-    ∷ codes "theorem" ∷ codes "end" ∷ codes "machine" ∷ codes "refines" ∷ codes "sees" ∷ codes "variables" ∷ codes "invariants"
-    ∷ codes "variant" ∷ codes "events" ∷ codes "event" ∷ codes "any" ∷ codes "where" ∷ codes "when" ∷ codes "with" ∷ codes "begin"
-    ∷ codes "then" ∷ codes "ordinary" ∷ codes "convergent" ∷ codes "anticipated" ∷ []
 
 abbrev pub is_among : List (List ℕ) → List ℕ → Bool
 is_among words word = list_any (λ w. bytes_eq w word) words
-
-abbrev pub is_identifier : List ℕ → Bool
-is_identifier word = not (is_among reserved word)
 
 abbrev pub are_distinct : List (List ℕ) → Bool
 are_distinct [] = true
@@ -159,11 +151,11 @@ is_comparison c =
 abbrev pub is_axiom : Axiom → Bool
 is_axiom a = not (is_nil a.comparisons) && nat_le (length a.comparisons) 50 && list_all is_comparison a.comparisons
 
--- The constants are one or more distinct identifiers, each is used, and each used name is one.
+-- There are one or more constants, all distinct, each is used, and each used name is one.
 abbrev pub has_constants : Context → Bool
 has_constants c =
-    is_identifier c.name && not (is_nil c.constants) && list_all is_identifier c.constants && are_distinct c.constants
-    && list_all (is_among (used_names c)) c.constants && list_all (is_among c.constants) (used_names c)
+    not (is_nil c.constants) && are_distinct c.constants && list_all (is_among (used_names c)) c.constants
+    && list_all (is_among c.constants) (used_names c)
 
 abbrev pub has_axioms : Context → Bool
 has_axioms c = list_all is_axiom c.axioms && are_distinct (map (λ a. a.label) c.axioms)
@@ -179,10 +171,27 @@ has_scope t =
 abbrev pub is_well_formed : ModelText → Bool
 is_well_formed t = has_constants t.context && has_axioms t.context && has_scope t
 
+-- the kinds of tokens, apart from their places
+abbrev pub kinds : List Token → List TokenKind
+kinds ts = map (λ t. t.kind) ts
+
 -- The text is this one of the language.
 pub record IsText (text : List ℕ) (t : ModelText) : Type 0 where
   pub short : length text ≤ 65536
   pub tokens : List Token
   pub are_tokens : IsTokens tokens text
-  pub derived : tokens ≡ tokens_of t
+  pub derived : kinds tokens ≡ tokens_of t
   pub well_formed : is_well_formed t ≡ true
+
+-- The text has tokens, and isn't of the language.
+pub record IsForeign (text : List ℕ) : Type 0 where
+  pub tokens : List Token
+  pub are_tokens : IsTokens tokens text
+  pub none : (t : ModelText) → IsText text t → ⊥
+
+-- the cause of each fault; want of memory has none
+abbrev pub IsFaultOf : List ℕ → TextFault → Type 0
+IsFaultOf text fault.NotUtf8 = IsUtf8 text → ⊥
+IsFaultOf text (fault.BadToken at) = IsBadAt at text
+IsFaultOf text fault.NotYet = IsForeign text
+IsFaultOf text fault.Memory = ⊤

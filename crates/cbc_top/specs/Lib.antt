@@ -1,9 +1,8 @@
-pub mod Tokens
 pub mod Grammar
-pub mod Lexing
 pub mod Reading
 pub mod Models
-pub mod Words
 pub mod Answers
 pub mod Run
 pub mod Due
+pub mod ModelFiles
+pub mod Joining

@@ -1,15 +1,19 @@
 -- What a run writes, and how it ends.
-use Rattle.std.specs.Prelude.{◌≡◌, ◌⊎◌, ⊤, ℕ, ◌<◌, nat_le, MatchBool, List, [], ◌++◌, length, codes, Option, Some, None}
+use Rattle.std.specs.Prelude.{◌≡◌, ◌⊎◌, ⊤, ℕ, ◌<◌, nat_le, MatchBool, List, [], ◌++◌, length, codes, decimal, Option, Some, None}
+use Rattle.std.specs.Str.{IsUtf8}
+use Rattle.eb_lexer.specs.Tokens.{IsBadAt}
 use Rattle.cbc_outside.specs.Outside.{Files, lookup}
 use Rattle.cbc_top.specs.declared.status.Status.{Status}
 use Rattle.cbc_top.specs.declared.status.Status.TheVariants.{Refused, ReadFault, WriteFault, Memory}
 use Rattle.cbc_top.specs.declared.refusal.Refusal.{Refusal}
-use Rattle.cbc_top.specs.declared.refusal.Refusal.TheVariants.{Words, TooLong, NotYet}
-use Rattle.cbc_top.specs.declared.words.Action.{Action}
-use Rattle.cbc_top.specs.declared.words.Action.TheVariants as action_of
+use Rattle.cbc_top.specs.declared.refusal.Refusal.TheVariants.{Words, TooLong, NotUtf8, BadToken, NotYet}
+use Rattle.cbc_words.specs.declared.action.Action.{Action}
+use Rattle.cbc_words.specs.declared.action.Action.TheVariants as action
+use Rattle.cbc_words.specs.declared.action.Command.{Command}
+use Rattle.cbc_words.specs.Words.{command_of}
 use Rattle.cbc_top.specs.declared.text.syntax.ModelText.{ModelText}
-use Rattle.cbc_top.specs.Grammar.{IsText}
-use Rattle.cbc_top.specs.Words.{command}
+use Rattle.cbc_top.specs.Grammar.{IsText, IsForeign}
+use Rattle.cbc_top.specs.ModelFiles.{ModelBytes, missing, too_long, whole, joined, IsOneOf}
 use Rattle.cbc_top.specs.Answers.{IsAnswer, IsJudged}
 
 -- no fault and no want of memory ended the run
@@ -19,63 +23,87 @@ IsWhole WriteFault = ⊥
 IsWhole Memory = ⊥
 IsWhole _ = ⊤
 
+abbrev pub bad_token_text : ℕ → List ℕ
+bad_token_text place = codes "refused E2 BadToken " ++ (decimal place ++ codes "\n")
+
 -- the line of a refusal
 abbrev pub refusal_text : Refusal → List ℕ
 refusal_text Words = codes "refused E14 Words\n"
 refusal_text TooLong = codes "refused E13 TooLong\n"
+refusal_text NotUtf8 = codes "refused E1 NotUtf8\n"
+refusal_text (BadToken place) = bad_token_text place
 refusal_text NotYet = codes "refused E15 NotYet\n"
 
 abbrev pub IsRefusal : Refusal → List ℕ → Status → Type 0
 IsRefusal refusal bytes status = (bytes ≡ refusal_text refusal) × (status ≡ Refused)
 
--- a model file has at most 4 MiB, and its text is of the language
-abbrev pub RefusesModel : List ℕ → Refusal → Type 0
-RefusesModel text refusal =
-    MatchBool (nat_le (length text) 4194304) (((t : ModelText) → IsText text t → ⊥) × (refusal ≡ NotYet)) (refusal ≡ TooLong)
+-- why a text of a model is refused: it isn't UTF-8; or no token begins at this byte, the first such place; or it has tokens and
+-- isn't of the language
+abbrev pub RefusesText : List ℕ → Refusal → Type 0
+RefusesText text NotUtf8 = IsUtf8 text → ⊥
+RefusesText text (BadToken place) = IsBadAt place text
+RefusesText text NotYet = IsForeign text
+RefusesText text _ = ⊥
 
--- What is due on a model's file: what is due on the model, or the refusal. A file that isn't there ends
+-- What is due on a model's bytes: what is due on the model, or the refusal. A file that isn't there ends
 -- in a fault.
-abbrev pub OnModel : (ModelText → List ℕ → Status → Type 0) → Option (List ℕ) → List ℕ → Status → Type 0
-OnModel Due None bytes status = ⊥
-OnModel Due (Some text) bytes status =
+abbrev pub OnModel : (ModelText → List ℕ → Status → Type 0) → ModelBytes → List ℕ → Status → Type 0
+OnModel Due missing bytes status = ⊥
+OnModel Due too_long bytes status = IsRefusal TooLong bytes status
+OnModel Due (whole text) bytes status =
     ((t : ModelText) × IsText text t × Due t bytes status)
-    ⊎ ((refusal : Refusal) × RefusesModel text refusal × IsRefusal refusal bytes status)
+    ⊎ ((refusal : Refusal) × RefusesText text refusal × IsRefusal refusal bytes status)
 
 -- a tree's file has at most 16 MiB
 abbrev pub OnTree : Option (List ℕ) → ModelText → List ℕ → Status → Type 0
 OnTree None t bytes status = ⊥
 OnTree (Some tree) t bytes status = MatchBool (nat_le (length tree) 16777216) (IsJudged t tree bytes status) (IsRefusal NotYet bytes status)
 
--- the model is judged before the tree's file
-abbrev pub OnCommand : Option Action → Files → List ℕ → Status → Type 0
+-- The model is judged before the tree's file. Some actions aren't built yet.
+abbrev pub OnAction : Action → ℕ → Files → List ℕ → Status → Type 0
+OnAction (action.Solve names) budget files bytes status = OnModel (λ t. IsAnswer t budget) (joined files names) bytes status
+OnAction (action.Check names tree) budget files bytes status = OnModel (OnTree (lookup files tree)) (joined files names) bytes status
+OnAction (action.Cover names) budget files bytes status = IsRefusal NotYet bytes status
+OnAction (action.Replay names test) budget files bytes status = IsRefusal NotYet bytes status
+OnAction (action.Gen number) budget files bytes status = IsRefusal NotYet bytes status
+
+abbrev pub OnCommand : Option Command → Files → List ℕ → Status → Type 0
 OnCommand None files bytes status = IsRefusal Words bytes status
-OnCommand (Some (action_of.Solve file budget)) files bytes status = OnModel (λ t. IsAnswer t budget) (lookup files file) bytes status
-OnCommand (Some (action_of.Check file tree)) files bytes status = OnModel (OnTree (lookup files tree)) (lookup files file) bytes status
+OnCommand (Some command) files bytes status = OnAction command.action command.budget files bytes status
 
 -- These bytes and this status are lawful at these words and files.
 abbrev pub Run : List (List ℕ) → Files → List ℕ → Status → Type 0
-Run words files bytes status = OnCommand (command words) files bytes status
+Run words files bytes status = OnCommand (command_of words) files bytes status
 
 -- nothing, or a proper front of bytes that are lawful
 abbrev pub Begins : List (List ℕ) → Files → List ℕ → Type 0
 Begins words files bytes = (bytes ≡ []) ⊎ ((more : List ℕ) × (0 < length more) × (status : Status) × Run words files (bytes ++ more) status)
 
--- the command has a file with this name
-abbrev pub IsFileOf : Option Action → Option (List ℕ) → Type 0
+-- the action reads a file with this name
+abbrev pub IsFileOfAction : Action → Option (List ℕ) → Type 0
+IsFileOfAction (action.Solve names) name = IsOneOf names name
+IsFileOfAction (action.Check names tree) name = IsOneOf names name ⊎ (name ≡ Some tree)
+IsFileOfAction _ name = ⊥
+
+-- the command reads a file with this name
+abbrev pub IsFileOf : Option Command → Option (List ℕ) → Type 0
 IsFileOf None name = ⊥
-IsFileOf (Some (action_of.Solve file budget)) name = name ≡ Some file
-IsFileOf (Some (action_of.Check file tree)) name = (name ≡ Some file) ⊎ (name ≡ Some tree)
+IsFileOf (Some command) name = IsFileOfAction command.action name
 
--- the file has a text of the language
-abbrev pub IsModelFile : Option (List ℕ) → Type 0
-IsModelFile None = ⊥
-IsModelFile (Some text) = (t : ModelText) × IsText text t
+-- these are the bytes of a text of the language
+abbrev pub IsModel : ModelBytes → Type 0
+IsModel missing = ⊥
+IsModel too_long = ⊥
+IsModel (whole text) = (t : ModelText) × IsText text t
 
--- where the name isn't that of the command's first file, its model was read
-abbrev pub JudgesModelFirst : Option Action → Files → Option (List ℕ) → Type 0
+abbrev pub ActsInOrder : Action → Files → Option (List ℕ) → Type 0
+ActsInOrder (action.Check names tree) files name = IsOneOf names name ⊎ IsModel (joined files names)
+ActsInOrder _ files name = ⊤
+
+-- where the name isn't that of a file of the command's model, the model was read
+abbrev pub JudgesModelFirst : Option Command → Files → Option (List ℕ) → Type 0
 JudgesModelFirst None files name = ⊤
-JudgesModelFirst (Some (action_of.Solve file budget)) files name = ⊤
-JudgesModelFirst (Some (action_of.Check file tree)) files name = (name ≡ Some file) ⊎ IsModelFile (lookup files file)
+JudgesModelFirst (Some command) files name = ActsInOrder command.action files name
 
 -- a fact of the files, where they are told
 abbrev pub ForFiles : Option Files → (Files → Type 0) → Type 0

@@ -11,6 +11,7 @@ ghost use Rattle.cbc_top.specs.Models.{problem_of, scope_of};
 ghost use Rattle.cbc_top.specs.Answers.{IsWitness, refuted_text, undecided_text};
 
 use crate::text::syntax::ModelText;
+use eb_lexer::tokens_name_slices;
 use tree_checker::{
     accepted_text_refutes, trees_have_small_numbers, whole_texts_are_printed_trees,
 };
@@ -39,6 +40,7 @@ pub fn printed_trees_have_their_verdict(model: &ModelText, text: &[u8], budget: 
     ensures undecided { (tree : Tree) → IsUndecided (scope_of model.now) (problem_of model.now) budget tree
         → IsVerdict (scope_of model.now) (problem_of model.now) (undecided_text budget tree) (verdict.Partial (opens (lines_of tree))) }
 {
+    tokens_name_slices();
     trees_have_small_numbers();
     whole_texts_are_printed_trees();
 }

@@ -1,17 +1,17 @@
 //! The whole program behind its words: one call, `run`.
 //!
 //! The definitions that its contract cites stand in `specs/`, by room: the words (`Words`), the text
-//! (`Tokens`, `Grammar`), its problem (`Models`), the answers (`Answers`) and the run (`Run`).
+//! (`Grammar`), its problem (`Models`), the answers (`Answers`) and the run (`Run`).
 #![tactic(auto)]
 
 mod answer;
 mod laws;
+mod model_files;
 mod problem;
 mod refusal;
 mod status;
 mod text;
 mod top;
-mod words;
 
 pub use laws::{
     accepted_text_refutes_axioms, printed_trees_have_their_verdict, solutions_are_witnesses,
@@ -22,10 +22,8 @@ pub use status::Status;
 pub use text::syntax::{
     Axiom, Bound, Comparison, Context, Direction, ModelText, Relation, Sum, Summand,
 };
-pub use text::tokens::{Sign, Token};
 pub use text::{TextFault, model_text};
 pub use top::run;
-pub use words::{Action, command};
 
 #[cfg(test)]
 mod tests;

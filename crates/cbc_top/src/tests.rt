@@ -8,9 +8,12 @@ use std::test::Fail;
 mod budgets;
 mod faults;
 mod languages;
+mod spellings;
 mod trees;
 
 const NOT_YET: &str = "refused E15 NotYet\n";
+
+const NO_COMMAND: &str = "refused E14 Words\n";
 
 /// What a run wrote, and how it ended.
 type Outcome = (Bytes, Status);
@@ -56,6 +59,28 @@ fn outcome_with(
 
 fn outcome(alloc: Global, words: &str, text: &[u8]) -> Result<Outcome, AllocError> {
     outcome_with(alloc, words, text, None)
+}
+
+/// Whether a run writes this and ends so.
+fn ends_with(outcome: &Outcome, text: &str, status: Status) -> bool {
+    outcome.0.as_slice() == text.as_bytes() && outcome.1 == status
+}
+
+/// The first command, each up to a `;`, after which a run on a model doesn't write this and end so.
+fn first_other(
+    alloc: Global,
+    commands: &str,
+    model: &str,
+    text: &str,
+    status: Status,
+) -> Result<String, AllocError> {
+    for words in commands.split(';') {
+        let ended = outcome(alloc, words, model.as_bytes())?;
+        if !ends_with(&ended, text, status) {
+            return String::from_str(alloc, words);
+        }
+    }
+    Ok(String::new(alloc))
 }
 
 /// A context with these constants and axioms, and this scope of integers.

@@ -3,26 +3,26 @@ ghost use Rattle.std.specs.Io.KnownBytes.{Appends};
 ghost use Rattle.cbc_outside.specs.Outside.{Rose, AppendsFront, lookup};
 ghost use Rattle.cbc_top.specs.declared.top.Stop.TheVariants.{Memory};
 ghost use Rattle.cbc_top.specs.Grammar.{IsText};
-ghost use Rattle.cbc_top.specs.Words.{command as asked};
+ghost use Rattle.cbc_words.specs.Words.{command_of};
+ghost use Rattle.cbc_top.specs.ModelFiles as files_of;
 ghost use Rattle.cbc_top.specs.Answers as answers;
 ghost use Rattle.cbc_top.specs.Run as spec;
 ghost use Rattle.cbc_top.specs.Due as due;
 
 use crate::answer::{found, judged, refuted, undecided};
+use crate::model_files::joined;
 use crate::problem::{problem_of, scope_of};
 use crate::refusal::Refusal;
 use crate::status::Status;
 use crate::text::syntax::ModelText;
 use crate::text::{TextFault, model_text};
-use crate::words::{Action, command};
 use branch_search::{Answer, search};
 use cbc_outside::{ReadStop, Sink, Source, read_all, write_all};
-use eb_value::{Bytes, Name};
+use cbc_words::{Action, WordsFault, command};
+use eb_lexer::tokens_name_slices;
+use eb_value::{Bytes, Name, Names};
 use std::alloc::{AllocError, Global};
 use tree_checker::{Verdict, check_text};
-
-/// A model file has no more bytes.
-const LONGEST_MODEL: u64 = 4 << 20;
 
 /// A tree file has no more bytes.
 const LONGEST_TREE: u64 = 16 << 20;
@@ -50,6 +50,7 @@ fn solved(alloc: Global, text: &ModelText, budget: u64) -> Result<Due, AllocErro
     requires readable { due.IsReadable text.now }
     ensures { IfOk result (λ d. answers.IsAnswer text.now budget d.0 d.1) }
 {
+    tokens_name_slices();
     let problem = problem_of(alloc, text)?;
     let scope = scope_of(alloc, text);
     match search(alloc, &problem, &scope, budget)? {
@@ -84,6 +85,7 @@ fn checked(alloc: Global, text: &ModelText, tree: &[u8]) -> Result<Due, AllocErr
     requires short { length tree.now ≤ 16777216 }
     ensures { IfOk result (λ d. answers.IsJudged text.now tree.now d.0 d.1) }
 {
+    tokens_name_slices();
     let problem = problem_of(alloc, text)?;
     let scope = scope_of(alloc, text);
     let verdict = check_text(alloc, &problem, &scope, tree)?;
@@ -91,20 +93,31 @@ fn checked(alloc: Global, text: &ModelText, tree: &[u8]) -> Result<Due, AllocErr
     Ok((bytes, status_of(verdict)))
 }
 
-/// The model of a file.
-fn model_in<S: Source>(alloc: Global, src: &mut S, file: Name) -> Result<ModelText, Stop>
+/// How a fault of a model's text ends a run.
+fn stop_of(fault: TextFault) -> Stop
+    ensures { result ≡ due.stop_of fault }
+{
+    match fault {
+        TextFault::NotUtf8 => Stop::Refused(Refusal::NotUtf8),
+        TextFault::BadToken(place) => Stop::Refused(Refusal::BadToken(place)),
+        TextFault::NotYet => Stop::Refused(Refusal::NotYet),
+        TextFault::Memory => Stop::Memory,
+    }
+}
+
+/// The model of some files.
+fn model_in<S: Source>(alloc: Global, src: &mut S, names: &[Name]) -> Result<ModelText, Stop>
     ensures same { S.files src.new ≡ S.files src.old }
-    ensures read { spec.ForFiles (S.files src.old) (λ files. due.ReadsModel (lookup files file) result) }
+    ensures read { spec.ForFiles (S.files src.old) (λ files. due.ReadsModel (files_of.joined files names.now) result) }
     ensures readable { IfOk result due.IsReadable }
     ensures fault { result ≡ Err Stop.ReadFault → Rose (S.faults src.old) (S.faults src.new) }
-    ensures named { result ≡ Err Stop.ReadFault → S.fault_name src.new ≡ Some file }
-    ensures later { S.faults src.old ≤ S.faults src.new }
+    ensures named { result ≡ Err Stop.ReadFault → files_of.IsOneOf names.now (S.fault_name src.new) }
+    ensures kept { IfOk result (λ t. S.faults src.new ≡ S.faults src.old) }
 {
-    match read_all(alloc, src, file, LONGEST_MODEL) {
+    match joined(alloc, src, names) {
         Ok(text) => match model_text(alloc, text.as_slice()) {
             Ok(model) => Ok(model),
-            Err(TextFault::NotYet) => Err(Stop::Refused(Refusal::NotYet)),
-            Err(TextFault::Memory) => Err(Stop::Memory),
+            Err(fault) => Err(stop_of(fault)),
         },
         Err(ReadStop::TooLong) => Err(Stop::Refused(Refusal::TooLong)),
         Err(ReadStop::Failed) => Err(Stop::ReadFault),
@@ -127,27 +140,37 @@ fn tree_in<S: Source>(alloc: Global, src: &mut S, file: Name) -> Result<Bytes, S
     }
 }
 
-/// What is due at `solve FILE`.
-fn due_at_solve<S: Source>(alloc: Global, src: &mut S, file: Name, budget: u64) -> Result<Due, Stop>
-    ensures lawful { spec.ForFiles (S.files src.old) (λ files. due.DueBy (spec.OnCommand (Some (Action.Solve file budget)) files) result) }
+/// What is due at `solve FILE..`.
+fn due_at_solve<S: Source>(
+    alloc: Global,
+    src: &mut S,
+    names: Names,
+    budget: u64,
+) -> Result<Due, Stop>
+    ensures lawful { spec.ForFiles (S.files src.old) (λ files. due.DueBy (spec.OnAction (Action.Solve names) budget files) result) }
     ensures whole { IfOk result (λ d. spec.IsWhole d.1) }
     ensures fault { result ≡ Err Stop.ReadFault → Rose (S.faults src.old) (S.faults src.new) }
-    ensures named { result ≡ Err Stop.ReadFault → spec.IsFileOf (Some (Action.Solve file budget)) (S.fault_name src.new) }
+    ensures named { result ≡ Err Stop.ReadFault → spec.IsFileOfAction (Action.Solve names) (S.fault_name src.new) }
 {
-    let text = model_in(alloc, src, file)?;
+    let text = model_in(alloc, src, names.as_slice())?;
     let due = solved(alloc, &text, budget)?;
     Ok(due)
 }
 
-/// What is due at `check FILE TREE`.
-fn due_at_check<S: Source>(alloc: Global, src: &mut S, file: Name, tree: Name) -> Result<Due, Stop>
-    ensures lawful { spec.ForFiles (S.files src.old) (λ files. due.DueBy (spec.OnCommand (Some (Action.Check file tree)) files) result) }
+/// What is due at `check FILE.. TREE`.
+fn due_at_check<S: Source>(
+    alloc: Global,
+    src: &mut S,
+    names: Names,
+    tree: Name,
+) -> Result<Due, Stop>
+    ensures lawful { spec.ForFiles (S.files src.old) (λ files. due.DueBy (spec.OnAction (Action.Check names tree) 0 files) result) }
     ensures whole { IfOk result (λ d. spec.IsWhole d.1) }
     ensures fault { result ≡ Err Stop.ReadFault → Rose (S.faults src.old) (S.faults src.new) }
-    ensures named { result ≡ Err Stop.ReadFault → spec.IsFileOf (Some (Action.Check file tree)) (S.fault_name src.new) }
-    ensures order { result ≡ Err Stop.ReadFault → spec.ForFiles (S.files src.old) (λ files. spec.JudgesModelFirst (Some (Action.Check file tree)) files (S.fault_name src.new)) }
+    ensures named { result ≡ Err Stop.ReadFault → spec.IsFileOfAction (Action.Check names tree) (S.fault_name src.new) }
+    ensures order { result ≡ Err Stop.ReadFault → spec.ForFiles (S.files src.old) (λ files. spec.ActsInOrder (Action.Check names tree) files (S.fault_name src.new)) }
 {
-    let text = model_in(alloc, src, file)?;
+    let text = model_in(alloc, src, names.as_slice())?;
     let tree = tree_in(alloc, src, tree)?;
     let due = checked(alloc, &text, tree.as_slice())?;
     Ok(due)
@@ -158,15 +181,24 @@ fn due_at<S: Source>(alloc: Global, words: &[Name], src: &mut S) -> Result<Due, 
     ensures lawful { spec.ForFiles (S.files src.old) (λ files. due.DueBy (spec.Run words.now files) result) }
     ensures whole { IfOk result (λ d. spec.IsWhole d.1) }
     ensures fault { result ≡ Err Stop.ReadFault → Rose (S.faults src.old) (S.faults src.new) }
-    ensures named { result ≡ Err Stop.ReadFault → spec.IsFileOf (asked words.now) (S.fault_name src.new) }
-    ensures order { result ≡ Err Stop.ReadFault → spec.ForFiles (S.files src.old) (λ files. spec.JudgesModelFirst (asked words.now) files (S.fault_name src.new)) }
+    ensures named { result ≡ Err Stop.ReadFault → spec.IsFileOf (command_of words.now) (S.fault_name src.new) }
+    ensures order { result ≡ Err Stop.ReadFault → spec.ForFiles (S.files src.old) (λ files. spec.JudgesModelFirst (command_of words.now) files (S.fault_name src.new)) }
 {
-    match command(alloc, words)? {
-        None => Err(Stop::Refused(Refusal::Words)),
-        Some(Action::Solve(file, budget)) => due_at_solve(alloc, src, file, budget),
-        Some(Action::Check(file, tree)) => due_at_check(alloc, src, file, tree),
+    let command = match command(alloc, words) {
+        Ok(command) => command,
+        Err(WordsFault::Words) => return Err(Stop::Refused(Refusal::Words)),
+        Err(WordsFault::Memory) => return Err(Stop::Memory),
+    };
+    let budget = command.budget;
+    match command.action {
+        Action::Solve { files } => due_at_solve(alloc, src, files, budget),
+        Action::Check { files, tree } => due_at_check(alloc, src, files, tree),
+        Action::Cover { .. } | Action::Replay { .. } | Action::Gen { .. } => {
+            Err(Stop::Refused(Refusal::NotYet))
+        }
     }
 }
+
 /// Writes the bytes and ends with the status, or at a fault.
 fn say<K: Sink>(out: &mut K, bytes: &[u8], status: Status) -> Status
     requires { spec.IsWhole status }
@@ -188,8 +220,9 @@ fn say<K: Sink>(out: &mut K, bytes: &[u8], status: Status) -> Status
 /// the scope; or `undecided` with a tree that leaves boxes open, after as many splits as the budget
 /// allows. `check FILE TREE` judges a tree, whoever wrote it, by the model: `accepted`, `partial`
 /// with the number of open boxes, or `refused` with the first line at fault and its cause. Anything
-/// else is refused with one line: `E14` the words, `E13` a model file that is too long, `E15` a
-/// model that isn't of the language or a tree file that is too long.
+/// else is refused with one line: `E14` the words, `E13` a model file that is too long, `E1` a model
+/// that isn't UTF-8, `E2` with the first byte at which no token begins, `E15` a model that isn't of
+/// the language or a tree file that is too long. Of several causes the one that stands first here counts.
 pub fn run<S: Source, K: Sink>(alloc: Global, words: &[Name], src: &mut S, out: &mut K) -> Status
     // Where no fault and no want of memory ended it, what it wrote and its status are lawful.
     ensures answers { spec.IsWhole result → spec.ForFiles (S.files src.old) (λ files.
@@ -199,16 +232,19 @@ pub fn run<S: Source, K: Sink>(alloc: Global, words: &[Name], src: &mut S, out: 
         spec.Writes (K.taken out.old) (K.taken out.new) (spec.Begins words.now files)) }
     // A read fault comes only where the source failed at a file of the command, before any output.
     ensures read_fault { result ≡ Status.ReadFault → Rose (S.faults src.old) (S.faults src.new) }
-    ensures read_name { result ≡ Status.ReadFault → spec.IsFileOf (asked words.now) (S.fault_name src.new) }
+    ensures read_name { result ≡ Status.ReadFault → spec.IsFileOf (command_of words.now) (S.fault_name src.new) }
     // It comes at a tree's file only where the model was read and is of the language.
     ensures read_order { result ≡ Status.ReadFault → spec.ForFiles (S.files src.old) (λ files.
-        spec.JudgesModelFirst (asked words.now) files (S.fault_name src.new)) }
+        spec.JudgesModelFirst (command_of words.now) files (S.fault_name src.new)) }
     ensures read_nothing { result ≡ Status.ReadFault → K.taken out.new ≡ K.taken out.old }
     ensures write_fault { result ≡ Status.WriteFault → Rose (K.faults out.old) (K.faults out.new) }
 {
     match due_at(alloc, words, src) {
         Ok((bytes, status)) => say(out, bytes.as_slice(), status),
-        Err(Stop::Refused(refusal)) => say(out, refusal.line().as_bytes(), Status::Refused),
+        Err(Stop::Refused(refusal)) => match refusal.line(alloc) {
+            Ok(line) => say(out, line.as_slice(), Status::Refused),
+            Err(_) => Status::Memory,
+        },
         Err(Stop::ReadFault) => Status::ReadFault,
         Err(Stop::Memory) => Status::Memory,
     }

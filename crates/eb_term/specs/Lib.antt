@@ -1,1 +1,2 @@
+pub mod Asts
 pub mod Terms

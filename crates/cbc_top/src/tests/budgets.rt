@@ -69,14 +69,15 @@ fn witnesses_are_found_within_a_budget(rt: HostRuntime) -> Result<(), Fail> {
 
 /// Words that are a command on a model, and then some that aren't, each up to a `;`.
 const COMMANDS: &str = "\
-solve/m/--budget/0;solve/--budget/0/m;--budget/0/solve/m;solve/m/--budget/00000000000000000000000000";
+solve/m/--budget/0;solve/--budget/0/m;--budget/0/solve/m;solve/m/--budget/00000000000000000000000000;\
+solve/m/--budget=0;--json/solve/--budget=0/m";
 
 const NO_COMMANDS: &str = "\
 solve/m/--budget;solve/--budget/m;solve/m/--budget/;solve/m/--budget/-1;solve/m/--budget/+1;\
 solve/m/--budget/1000001;solve/m/--budget/18446744073709551617;solve/m/--budget/x;\
-solve/m/--budget/1_0;solve/m/--budget=0;solve/--budget/0;--budget/0;\
-solve/m/--budget/0/--budget/0;--budget/0/check/m;check/m/t/--budget;solve/m/m/--budget/0;\
-solve/m/--Budget/0";
+solve/m/--budget/1_0;solve/--budget/0;--budget/0;solve/m/--budget/0/--budget/0;\
+--budget/0/check/m;check/m/t/--budget;solve/m/--Budget/0;solve/m/--json/--json;\
+solve/m/--help;-h;--version;gen/x;gen/1000001;gen/1/2;replay/m";
 
 #[test]
 fn budgets_stand_in_any_place(rt: HostRuntime) -> Result<(), Fail> {
@@ -92,18 +93,31 @@ fn budgets_stand_in_any_place(rt: HostRuntime) -> Result<(), Fail> {
             "{words}"
         );
     }
-    for words in NO_COMMANDS.split(';') {
-        let ended = outcome(alloc, words, text.as_bytes())?;
-        assert_eq!(rt;
-            ended.0.as_slice(),
-            b"refused E14 Words\n".as_slice(),
-            "{words}"
-        );
-        assert_eq!(rt; ended.1, Status::Refused);
-    }
+    Ok(())
+}
+
+#[test]
+fn other_words_are_refused(rt: HostRuntime) -> Result<(), Fail> {
+    let alloc = rt.alloc();
+    let text = model(alloc, "n", "@a n * n = 7", "0..5")?;
+    let other = first_other(
+        alloc,
+        NO_COMMANDS,
+        text.as_str(),
+        NO_COMMAND,
+        Status::Refused,
+    )?;
+    assert_eq!(rt; other.as_str(), "");
+    Ok(())
+}
+
+/// The largest budget is taken, and any is passed over where a tree is checked.
+#[test]
+fn budgets_may_be_large(rt: HostRuntime) -> Result<(), Fail> {
+    let alloc = rt.alloc();
+    let text = model(alloc, "n", "@a n * n = 7", "0..5")?;
     let most = outcome(alloc, "solve/m/--budget/1000000", text.as_bytes())?;
     assert_eq!(rt; most.1, Status::Decided);
-    // A budget is passed over where a tree is checked.
     for words in ["check/m/t/--budget/0", "check/--budget/7/m/t"] {
         let tree = Some(b"tree 1\no\nend\n".as_slice());
         let ended = outcome_with(alloc, words, text.as_bytes(), tree)?;

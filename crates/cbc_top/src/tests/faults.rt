@@ -104,37 +104,64 @@ fn faults_end_a_run(rt: HostRuntime) -> Result<(), Fail> {
 }
 
 #[test]
-fn words_and_files_are_judged(rt: HostRuntime) -> Result<(), Fail> {
+fn words_are_judged(rt: HostRuntime) -> Result<(), Fail> {
+    let words = ";solve;solve/-x;Solve/m;m/solve;check/m;check/m/-t";
+    let other = first_other(rt.alloc(), words, MODEL, NO_COMMAND, Status::Refused)?;
+    assert_eq!(rt; other.as_str(), "");
+    Ok(())
+}
+
+/// The actions that aren't built yet, and a model that stands twice in the joined text.
+#[test]
+fn some_actions_are_not_built(rt: HostRuntime) -> Result<(), Fail> {
+    let words = "cover/m;replay/m/t;gen/1000000;solve/m/m";
+    let other = first_other(rt.alloc(), words, MODEL, NOT_YET, Status::Refused)?;
+    assert_eq!(rt; other.as_str(), "");
+    Ok(())
+}
+
+/// Files that aren't there, also behind one that is.
+#[test]
+fn missing_files_are_faults(rt: HostRuntime) -> Result<(), Fail> {
+    let words = "solve/other;solve/;solve/m/t;check//t;check/m/t/t";
+    let other = first_other(rt.alloc(), words, MODEL, "", Status::ReadFault)?;
+    assert_eq!(rt; other.as_str(), "");
+    Ok(())
+}
+
+/// What `solve` writes on a model in two files.
+fn solved_in_two(alloc: Global, first: &[u8], second: &[u8]) -> Result<Outcome, AllocError> {
+    outcome_with(alloc, "solve/m/t", first, Some(second))
+}
+
+/// The line feed between two files parts a number from the next one.
+#[test]
+fn model_files_are_joined(rt: HostRuntime) -> Result<(), Fail> {
     let alloc = rt.alloc();
-    for words in [
-        "",
-        "solve",
-        "solve/-x",
-        "solve/",
-        "solve/m/m",
-        "Solve/m",
-        "m/solve",
-        "check/m",
-        "check/m/t/t",
-        "check/m/-t",
-        "check//t",
-        "solve/m/t",
-    ] {
-        let ended = outcome(alloc, words, MODEL.as_bytes())?;
-        assert_eq!(rt; ended.0.as_slice(), b"refused E14 Words\n".as_slice());
-        assert_eq!(rt; ended.1, Status::Refused);
-    }
-    let ended = outcome(alloc, "solve/other", MODEL.as_bytes())?;
-    assert_eq!(rt; ended.0.as_slice(), b"".as_slice());
-    assert_eq!(rt; ended.1, Status::ReadFault);
-    // Blanks up to 4 MiB are no text of the language, and one byte more is too long.
-    let mut text = Vec::new(alloc);
-    text.resize(4 << 20, b' ')?;
-    let ended = outcome(alloc, "solve/m", text.as_slice())?;
-    assert_eq!(rt; ended.0.as_slice(), NOT_YET.as_bytes());
-    text.push(b' ')?;
-    let ended = outcome(alloc, "solve/m", text.as_slice())?;
-    assert_eq!(rt; ended.0.as_slice(), b"refused E13 TooLong\n".as_slice());
-    assert_eq!(rt; ended.1, Status::Refused);
+    let first = b"context C constants n axioms @a n = 1";
+    let ended = solved_in_two(alloc, first, b"end scope int 0..20 end queries axioms end")?;
+    let found = "query axioms\nfound\nconstant n = 1\nend\n";
+    assert!(rt; ends_with(&ended, found, Status::Decided));
+    let ended = solved_in_two(
+        alloc,
+        first,
+        b"2 end scope int 0..20 end queries axioms end",
+    )?;
+    assert!(rt; ends_with(&ended, NOT_YET, Status::Refused));
+    Ok(())
+}
+
+/// Together with the line feed the files may have 4 MiB.
+#[test]
+fn joined_files_have_a_length(rt: HostRuntime) -> Result<(), Fail> {
+    let alloc = rt.alloc();
+    let mut blanks = Vec::new(alloc);
+    blanks.resize((2 << 20) - 1, b' ')?;
+    let mut more = Vec::new(alloc);
+    more.resize(2 << 20, b' ')?;
+    let ended = solved_in_two(alloc, more.as_slice(), blanks.as_slice())?;
+    assert!(rt; ends_with(&ended, NOT_YET, Status::Refused));
+    let ended = solved_in_two(alloc, more.as_slice(), more.as_slice())?;
+    assert!(rt; ends_with(&ended, "refused E13 TooLong\n", Status::Refused));
     Ok(())
 }

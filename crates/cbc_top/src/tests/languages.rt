@@ -30,11 +30,21 @@ fn answer_text(alloc: Global, answer: &str) -> Result<String, AllocError> {
     Ok(text)
 }
 
-/// Whether this was wanted: `E15`, a number of splits, or one of some answers, which `or` parts.
-fn is_wanted(alloc: Global, outcome: &Outcome, want: &str) -> Result<bool, AllocError> {
+/// The line of `E1`, of `E15`, or of `E2` and a place.
+fn refusal_text(alloc: Global, want: &str) -> Result<String, AllocError> {
+    match want.split_once("E2 ") {
+        Some((_, place)) => format!(in alloc; "refused E2 BadToken {place}\n"),
+        None if want == "E1" => String::from_str(alloc, "refused E1 NotUtf8\n"),
+        None => String::from_str(alloc, NOT_YET),
+    }
+}
+
+/// Whether this was wanted: a refusal, a number of splits, or one of some answers, which `or` parts.
+pub fn is_wanted(alloc: Global, outcome: &Outcome, want: &str) -> Result<bool, AllocError> {
     let bytes = outcome.0.as_slice();
-    if want == "E15" {
-        return Ok(bytes == NOT_YET.as_bytes() && outcome.1 == Status::Refused);
+    if want.starts_with("E") {
+        let line = refusal_text(alloc, want)?;
+        return Ok(bytes == line.as_bytes() && outcome.1 == Status::Refused);
     }
     if outcome.1 != Status::Decided {
         return Ok(false);
@@ -74,8 +84,8 @@ a b|@a a + b > 3 & a < 2 & b < 2|0..5|35;\
 a b|@a a - b = 5|0..5|a = 5, b = 0;\
 b a|@a a - b = 5|0..5|b = 0, a = 5;\
 n|@a n < 4611686018427387904|3..3|n = 3;\
-n|@a n < 4611686018427387905|3..3|E15;\
-n|@a n < 18446744073709551617|3..3|E15;\
+n|@a n < 4611686018427387905|3..3|E2 36;\
+n|@a n < 18446744073709551617|3..3|E2 36;\
 n|@a n * n = 7|0..5|5;\
 n|@a n*n = 4|0..5|n = 2;\
 a b|@a a * b = 6 & a < b|2..3|a = 2, b = 3;\
@@ -95,7 +105,7 @@ n||0..5|E15;\
 n|@a n = 3 @b n = 3|0..5|n = 3;\
 n|@-3b- n = 3|0..5|n = 3;\
 n|@a n = 3 @a n = 3|0..5|E15;\
-n|@ n = 3|0..5|E15;\
+n|@ n = 3|0..5|E2 29;\
 n n|@a n = 3|0..5|E15;\
 n m|@a n = 3|0..5|E15;\
 card|@a card = 3|0..5|E15;\
@@ -105,19 +115,24 @@ n|@a n = 3|-32769..0|E15;\
 n|@a n = 3|0..32768|E15;\
 a b|@a a < 0 & b < 0|0..30|960";
 
+/// Whether a row of constants, axioms, scope and what is wanted is answered so.
+pub fn is_answered(alloc: Global, row: &str) -> Result<bool, AllocError> {
+    let mut fields = row.split('|');
+    let constants = fields.next().unwrap_or("");
+    let axioms = fields.next().unwrap_or("");
+    let scope = fields.next().unwrap_or("");
+    let want = fields.next().unwrap_or("");
+    let text = model(alloc, constants, axioms, scope)?;
+    let ended = outcome(alloc, "solve/m", text.as_bytes())?;
+    is_wanted(alloc, &ended, want)
+}
+
 #[test]
 fn queries_are_answered(rt: HostRuntime) -> Result<(), Fail> {
     let alloc = rt.alloc();
     let mut count = 0u64;
     for row in ROWS.split(';') {
-        let mut fields = row.split('|');
-        let constants = fields.next().unwrap_or("");
-        let axioms = fields.next().unwrap_or("");
-        let scope = fields.next().unwrap_or("");
-        let want = fields.next().unwrap_or("");
-        let text = model(alloc, constants, axioms, scope)?;
-        let ended = outcome(alloc, "solve/m", text.as_bytes())?;
-        assert!(rt; is_wanted(alloc, &ended, want)?, "{row}");
+        assert!(rt; is_answered(alloc, row)?, "{row}");
         count = count.saturating_add(1);
     }
     assert_eq!(rt; count, 52);
@@ -134,46 +149,66 @@ fn repeated(alloc: Global, text: &str, between: &str, count: usize) -> Result<St
     Ok(all)
 }
 
+/// Whether an axiom on a constant of 0..1 is answered so.
+fn axiom_is(alloc: Global, axiom: &str, want: &str) -> Result<bool, AllocError> {
+    let text = model(alloc, "n", axiom, "0..1")?;
+    let ended = outcome(alloc, "solve/m", text.as_bytes())?;
+    is_wanted(alloc, &ended, want)
+}
+
+/// Whether so many comparisons in one axiom are answered so.
+fn comparisons_are(alloc: Global, count: usize, want: &str) -> Result<bool, AllocError> {
+    let parts = repeated(alloc, "n < 0", " & ", count)?;
+    let axiom = format!(in alloc; "@a {parts}")?;
+    axiom_is(alloc, axiom.as_str(), want)
+}
+
+/// Whether so many terms in one sum are answered so.
+fn terms_are(alloc: Global, count: usize, want: &str) -> Result<bool, AllocError> {
+    let parts = repeated(alloc, "n", " + ", count)?;
+    let axiom = format!(in alloc; "@a {parts} < 0")?;
+    axiom_is(alloc, axiom.as_str(), want)
+}
+
 #[test]
 fn limits_are_exact(rt: HostRuntime) -> Result<(), Fail> {
     let alloc = rt.alloc();
-    for (part, between, count, want) in [
-        ("n < 0", " & ", 50, "1"),
-        ("n < 0", " & ", 51, "E15"),
-        ("n", " + ", 50, "1"),
-        ("n", " + ", 51, "E15"),
-    ] {
-        let parts = repeated(alloc, part, between, count)?;
-        let axiom = format!(in alloc; "@a {parts} < 0")?;
-        let axiom = if part == "n" {
-            axiom
-        } else {
-            format!(in alloc; "@a {parts}")?
-        };
-        let text = model(alloc, "n", axiom.as_str(), "0..1")?;
-        let ended = outcome(alloc, "solve/m", text.as_bytes())?;
-        assert!(rt; is_wanted(alloc, &ended, want)?, "{count} times");
-    }
-    // Sixteen constants with two values each, and then seventeen.
-    let sixteen = "a b c d e f g h i j k l m n o p";
-    let sum = "a+b+c+d+e+f+g+h+i+j+k+l+m+n+o+p";
-    let axiom = format!(in alloc; "@a {sum} > 16")?;
-    let text = model(alloc, sixteen, axiom.as_str(), "0..1")?;
+    assert!(rt; comparisons_are(alloc, 50, "1")?);
+    assert!(rt; comparisons_are(alloc, 51, "E15")?);
+    assert!(rt; terms_are(alloc, 50, "1")?);
+    assert!(rt; terms_are(alloc, 51, "E15")?);
+    Ok(())
+}
+
+/// Sixteen constants with two values each, of which the sum is at most 16.
+#[test]
+fn sixteen_constants_are_decided(rt: HostRuntime) -> Result<(), Fail> {
+    let alloc = rt.alloc();
+    let axiom = "@a a+b+c+d+e+f+g+h+i+j+k+l+m+n+o+p > 16";
+    let text = model(alloc, "a b c d e f g h i j k l m n o p", axiom, "0..1")?;
     let ended = outcome(alloc, "solve/m", text.as_bytes())?;
     assert!(rt; is_wanted(alloc, &ended, "65535")?);
-    let constants = format!(in alloc; "{sixteen} q")?;
-    let axiom = format!(in alloc; "@a {sum}+q > 17")?;
-    let text = model(alloc, constants.as_str(), axiom.as_str(), "0..1")?;
+    Ok(())
+}
+
+/// Seventeen have more valuations than the budget allows splits.
+#[test]
+fn seventeen_constants_are_undecided(rt: HostRuntime) -> Result<(), Fail> {
+    let alloc = rt.alloc();
+    let axiom = "@a a+b+c+d+e+f+g+h+i+j+k+l+m+n+o+p+q > 17";
+    let text = model(alloc, "a b c d e f g h i j k l m n o p q", axiom, "0..1")?;
     let ended = outcome(alloc, "solve/m", text.as_bytes())?;
-    assert!(rt;
-        ended
-            .0
-            .as_slice()
-            .starts_with(b"query axioms\nundecided 100000\ntree 1\n")
-    );
-    assert_eq!(rt; lines_with(ended.0.as_slice(), "s c"), 100000);
+    let bytes = ended.0.as_slice();
+    assert!(rt; bytes.starts_with(b"query axioms\nundecided 100000\ntree 1\n"));
+    assert_eq!(rt; lines_with(bytes, "s c"), 100000);
     assert_eq!(rt; ended.1, Status::Undecided);
-    // A text of 65,536 bytes is read, and one more is too many.
+    Ok(())
+}
+
+/// A text of 65,536 bytes is read, and one more is too many, but for a bad token in it.
+#[test]
+fn texts_have_a_length(rt: HostRuntime) -> Result<(), Fail> {
+    let alloc = rt.alloc();
     let mut text = model(alloc, "n", "@a n = 3", "0..5")?;
     let blanks = repeated(alloc, " ", "", 65536usize.saturating_sub(text.len()))?;
     text.push_str(blanks.as_str())?;
@@ -182,34 +217,8 @@ fn limits_are_exact(rt: HostRuntime) -> Result<(), Fail> {
     text.push_str("\n")?;
     let ended = outcome(alloc, "solve/m", text.as_bytes())?;
     assert!(rt; is_wanted(alloc, &ended, "E15")?);
-    Ok(())
-}
-
-/// Whole texts that are answered by `n = 3`, and then those that aren't of the language.
-const ANSWERED: &str = "\
-context C constants n axioms @a n = 3 end scope int 0..5 end queries axioms end;\
-context\n C\nconstants n axioms@a n=3end scope int 0..5end queries axioms end\n";
-
-const REFUSED: &str = "\
-; \n;\t;\
-context C constants n axioms @a n = 3 end scope int 0..5 end;\
-context C constants n axioms @a n = 3 end scope int 0..5 end queries axioms end end;\
-context end constants n axioms @a n = 3 end scope int 0..5 end queries axioms end;\
-context C constants axioms @a 1 < 2 end scope int 0..5 end queries axioms end;\
-context C constants n axioms @a n = 3 end scope int 0..5 end queries axioms axioms end;\
-context C constants n axioms @a n = 3 // end scope int 0..5 end queries axioms end;\
-context C constants n\u{b7} axioms @a n = 3 end scope int 0..5 end queries axioms end";
-
-#[test]
-fn whole_texts_are_judged(rt: HostRuntime) -> Result<(), Fail> {
-    let alloc = rt.alloc();
-    for (texts, want) in [(ANSWERED, "n = 3"), (REFUSED, "E15")] {
-        for text in texts.split(';') {
-            let ended = outcome(alloc, "solve/m", text.as_bytes())?;
-            assert!(rt; is_wanted(alloc, &ended, want)?, "{text}");
-        }
-    }
-    let ended = outcome(alloc, "solve/m", &[0xff])?;
-    assert!(rt; is_wanted(alloc, &ended, "E15")?);
+    text.push_str("?")?;
+    let ended = outcome(alloc, "solve/m", text.as_bytes())?;
+    assert!(rt; is_wanted(alloc, &ended, "E2 65537")?);
     Ok(())
 }

@@ -9,75 +9,6 @@ use super::syntax::{
 };
 use eb_value::Name;
 
-/// The words that are no identifiers.
-const RESERVED: [&str; 53] = [
-    "or",
-    "not",
-    "true",
-    "false",
-    "mod",
-    "circ",
-    "INT",
-    "NAT",
-    "NAT1",
-    "POW",
-    "POW1",
-    "UNION",
-    "INTER",
-    "BOOL",
-    "TRUE",
-    "FALSE",
-    "card",
-    "min",
-    "max",
-    "dom",
-    "ran",
-    "union",
-    "inter",
-    "bool",
-    "finite",
-    "partition",
-    "id",
-    "prj1",
-    "prj2",
-    "context",
-    "extends",
-    "sets",
-    "constants",
-    "axioms",
-    "theorem",
-    "end",
-    "machine",
-    "refines",
-    "sees",
-    "variables",
-    "invariants",
-    "variant",
-    "events",
-    "event",
-    "any",
-    "where",
-    "when",
-    "with",
-    "begin",
-    "then",
-    "ordinary",
-    "convergent",
-    "anticipated",
-];
-
-fn is_one_of(words: &[&str], word: &str) -> bool
-    ensures { result ≡ list_any (λ other. bytes_eq other.now word.now) words.now }
-{
-    words.iter().any(|other| *other == word)
-}
-
-fn is_identifier(word: &str) -> bool
-    ensures { result ≡ grammar.is_identifier word.now }
-{
-    !is_one_of(&RESERVED, word)
-}
-
 fn is_among(names: &[Name], name: &str) -> bool
     ensures { result ≡ grammar.is_among names.now name.now }
 {
@@ -247,12 +178,6 @@ fn knows_all(context: &Context) -> bool
     knows_axioms(context.constants.as_slice(), context.axioms.as_slice())
 }
 
-fn are_identifiers(names: &[Name]) -> bool
-    ensures { result ≡ list_all grammar.is_identifier names.now }
-{
-    names.iter().all(|name| is_identifier(name.as_str()))
-}
-
 fn first_name(names: &[Name]) -> Option<(&Name, &[Name])>
     ensures { MatchOption result (names.now ≡ []) (λ x. names.now ≡ x.0.now ∷ x.1.now) }
 {
@@ -322,15 +247,12 @@ fn has_names(names: &[Name]) -> bool
     !names.is_empty()
 }
 
-/// Whether the constants are one or more distinct identifiers, each is used, and each used name is
-/// one.
+/// Whether there are one or more constants, all distinct, each is used, and each used name is one.
 fn has_constants(context: &Context) -> bool
     ensures { result ≡ grammar.has_constants context.now }
 {
     let constants = context.constants.as_slice();
-    is_identifier(context.name.as_str())
-        && has_names(constants)
-        && are_identifiers(constants)
+    has_names(constants)
         && are_distinct(constants)
         && are_used(context, constants)
         && knows_all(context)

@@ -1,4 +1,5 @@
-ghost use Rattle.std.specs.Prelude.{◌≡◌, [], ◌∷◌, List, option_map};
+ghost use Rattle.std.specs.Prelude.{◌≡◌, [], ◌∷◌, List, MatchOption, option_map};
+ghost use Rattle.cbc_top.specs.Grammar.{kinds};
 ghost use Rattle.cbc_top.specs.Reading.{Gives, with_front, all_of};
 ghost use Rattle.cbc_top.specs.Reading as reading;
 
@@ -6,89 +7,106 @@ use super::fault::TextFault;
 use super::syntax::{
     Axiom, Bound, Comparison, Context, Direction, ModelText, Relation, Sum, Summand,
 };
-use super::tokens::{Sign, Token};
+use eb_lexer::{Sign, Token, TokenKind};
 use eb_value::{Name, Names};
 use sqlite_items::Items;
 use std::alloc::Global;
 
-/// What follows a reserved word.
+/// What the first token is, and those behind it.
+fn first(tokens: &[Token]) -> Option<(&TokenKind, &[Token])>
+    ensures { MatchOption result (kinds tokens.now ≡ []) (λ x. kinds tokens.now ≡ x.0.now ∷ kinds x.1.now) }
+{
+    match tokens {
+        [first, rest @ ..] => Some((&first.kind, rest)),
+        [] => None,
+    }
+}
+
+/// What follows a word that must stand there.
 #[tactic(auto, unfolding(crate::specs::Reading::after_word))]
 fn after_word<'t>(tokens: &'t [Token], text: &str) -> Result<&'t [Token], TextFault>
-    ensures { Gives (λ x. x.now) result (reading.after_word text.now tokens.now) }
+    ensures { Gives (λ x. kinds x.now) result (reading.after_word text.now (kinds tokens.now)) }
 {
-    match tokens {
-        [Token::Word(word), rest @ ..] if word.as_str() == text => Ok(rest),
+    match first(tokens) {
+        Some((TokenKind::Word(word), rest)) if word.as_str() == text => Ok(rest),
         _ => Err(TextFault::NotYet),
     }
 }
 
-#[tactic(auto, unfolding(crate::specs::Reading::after_and))]
-fn after_and(tokens: &[Token]) -> Option<&[Token]>
-    ensures { option_map (λ x. x.now) result ≡ reading.after_and tokens.now }
+#[tactic(auto, unfolding(crate::specs::Reading::same_sign))]
+fn same_sign(left: Sign, right: Sign) -> bool
+    ensures { result ≡ reading.same_sign left right }
 {
-    match tokens {
-        [Token::Sign(Sign::And), rest @ ..] => Some(rest),
+    left == right
+}
+
+/// What follows a sign.
+#[tactic(auto, unfolding(crate::specs::Reading::after_sign))]
+fn after_sign(sign: Sign, tokens: &[Token]) -> Option<&[Token]>
+    ensures { option_map (λ x. kinds x.now) result ≡ reading.after_sign sign (kinds tokens.now) }
+{
+    match first(tokens) {
+        Some((TokenKind::Sign(found), rest)) if same_sign(*found, sign) => Some(rest),
         _ => None,
     }
 }
 
-#[tactic(auto, unfolding(crate::specs::Reading::after_dots))]
-fn after_dots(tokens: &[Token]) -> Result<&[Token], TextFault>
-    ensures { Gives (λ x. x.now) result (reading.after_dots tokens.now) }
+/// What follows a sign that must stand there.
+fn past_sign(sign: Sign, tokens: &[Token]) -> Result<&[Token], TextFault>
+    ensures { Gives (λ x. kinds x.now) result (reading.after_sign sign (kinds tokens.now)) }
 {
-    match tokens {
-        [Token::Sign(Sign::Dots), rest @ ..] => Ok(rest),
-        _ => Err(TextFault::NotYet),
-    }
-}
-
-#[tactic(auto, unfolding(crate::specs::Reading::after_minus))]
-fn after_minus(tokens: &[Token]) -> Option<&[Token]>
-    ensures { option_map (λ x. x.now) result ≡ reading.after_minus tokens.now }
-{
-    match tokens {
-        [Token::Sign(Sign::Minus), rest @ ..] => Some(rest),
-        _ => None,
+    match after_sign(sign, tokens) {
+        Some(rest) => Ok(rest),
+        None => Err(TextFault::NotYet),
     }
 }
 
 #[tactic(auto, unfolding(crate::specs::Reading::word_at))]
 fn word_at(tokens: &[Token]) -> Option<(&Name, &[Token])>
-    ensures { option_map (λ x. (x.0.now, x.1.now)) result ≡ reading.word_at tokens.now }
+    ensures { option_map (λ x. (x.0.now, kinds x.1.now)) result ≡ reading.word_at (kinds tokens.now) }
 {
-    match tokens {
-        [Token::Word(word), rest @ ..] => Some((word, rest)),
+    match first(tokens) {
+        Some((TokenKind::Word(word), rest)) => Some((word, rest)),
         _ => None,
     }
 }
 
 #[tactic(auto, unfolding(crate::specs::Reading::label_at))]
 fn label_at(tokens: &[Token]) -> Option<(&Name, &[Token])>
-    ensures { option_map (λ x. (x.0.now, x.1.now)) result ≡ reading.label_at tokens.now }
+    ensures { option_map (λ x. (x.0.now, kinds x.1.now)) result ≡ reading.label_at (kinds tokens.now) }
 {
-    match tokens {
-        [Token::Label(label), rest @ ..] => Some((label, rest)),
+    match first(tokens) {
+        Some((TokenKind::Label(label), rest)) => Some((label, rest)),
         _ => None,
     }
 }
 
 #[tactic(auto, unfolding(crate::specs::Reading::number_at))]
 fn number_at(tokens: &[Token]) -> Result<(i64, &[Token]), TextFault>
-    ensures { Gives (λ x. (x.0, x.1.now)) result (reading.number_at tokens.now) }
+    ensures { Gives (λ x. (x.0, kinds x.1.now)) result (reading.number_at (kinds tokens.now)) }
 {
-    match tokens {
-        [Token::Number(n), rest @ ..] => Ok((*n, rest)),
+    match first(tokens) {
+        Some((TokenKind::Number(n), rest)) => Ok((*n, rest)),
         _ => Err(TextFault::NotYet),
+    }
+}
+
+fn direction_of(sign: Sign) -> Option<Direction>
+    ensures { result ≡ reading.direction_of sign }
+{
+    match sign {
+        Sign::Plus => Some(Direction::Plus),
+        Sign::Minus => Some(Direction::Minus),
+        _ => None,
     }
 }
 
 #[tactic(auto, unfolding(crate::specs::Reading::direction_at))]
 fn direction_at(tokens: &[Token]) -> Option<(Direction, &[Token])>
-    ensures { option_map (λ x. (x.0, x.1.now)) result ≡ reading.direction_at tokens.now }
+    ensures { option_map (λ x. (x.0, kinds x.1.now)) result ≡ reading.direction_at (kinds tokens.now) }
 {
-    match tokens {
-        [Token::Sign(Sign::Plus), rest @ ..] => Some((Direction::Plus, rest)),
-        [Token::Sign(Sign::Minus), rest @ ..] => Some((Direction::Minus, rest)),
+    match first(tokens) {
+        Some((TokenKind::Sign(sign), rest)) => Some((direction_of(*sign)?, rest)),
         _ => None,
     }
 }
@@ -109,10 +127,10 @@ fn relation_of(sign: Sign) -> Option<Relation>
 
 #[tactic(auto, unfolding(crate::specs::Reading::relation_at))]
 fn relation_at(tokens: &[Token]) -> Result<(Relation, &[Token]), TextFault>
-    ensures { Gives (λ x. (x.0, x.1.now)) result (reading.relation_at tokens.now) }
+    ensures { Gives (λ x. (x.0, kinds x.1.now)) result (reading.relation_at (kinds tokens.now)) }
 {
-    match tokens {
-        [Token::Sign(sign), rest @ ..] => match relation_of(*sign) {
+    match first(tokens) {
+        Some((TokenKind::Sign(sign), rest)) => match relation_of(*sign) {
             Some(relation) => Ok((relation, rest)),
             None => Err(TextFault::NotYet),
         },
@@ -123,17 +141,14 @@ fn relation_at(tokens: &[Token]) -> Result<(Relation, &[Token]), TextFault>
 /// The constant behind a `*`, if one stands there.
 #[tactic(auto, unfolding(crate::specs::Reading::factor_at))]
 fn factor_at(tokens: &[Token]) -> Option<(&Name, &[Token])>
-    ensures { option_map (λ x. (x.0.now, x.1.now)) result ≡ reading.factor_at tokens.now }
+    ensures { option_map (λ x. (x.0.now, kinds x.1.now)) result ≡ reading.factor_at (kinds tokens.now) }
 {
-    match tokens {
-        [Token::Sign(Sign::Times), rest @ ..] => word_at(rest),
-        _ => None,
-    }
+    word_at(after_sign(Sign::Times, tokens)?)
 }
 
 /// A number, behind which a factor may stand.
 fn multiple(alloc: Global, n: i64, tokens: &[Token]) -> Result<(Summand, &[Token]), TextFault>
-    ensures { Gives (λ x. (x.0, x.1.now)) result (reading.multiple n tokens.now (reading.factor_at tokens.now)) }
+    ensures { Gives (λ x. (x.0, kinds x.1.now)) result (reading.multiple n (kinds tokens.now) (reading.factor_at (kinds tokens.now))) }
 {
     match factor_at(tokens) {
         Some((name, rest)) => Ok((Summand::Multiple(n, name.copied(alloc)?), rest)),
@@ -147,7 +162,7 @@ fn product<'t>(
     name: &Name,
     tokens: &'t [Token],
 ) -> Result<(Summand, &'t [Token]), TextFault>
-    ensures { Gives (λ x. (x.0, x.1.now)) result (reading.product name.now tokens.now (reading.factor_at tokens.now)) }
+    ensures { Gives (λ x. (x.0, kinds x.1.now)) result (reading.product name.now (kinds tokens.now) (reading.factor_at (kinds tokens.now))) }
 {
     let name = name.copied(alloc)?;
     match factor_at(tokens) {
@@ -158,11 +173,11 @@ fn product<'t>(
 
 #[tactic(auto, unfolding(crate::specs::Reading::summand_at))]
 fn summand_at(alloc: Global, tokens: &[Token]) -> Result<(Summand, &[Token]), TextFault>
-    ensures { Gives (λ x. (x.0, x.1.now)) result (reading.summand_at tokens.now) }
+    ensures { Gives (λ x. (x.0, kinds x.1.now)) result (reading.summand_at (kinds tokens.now)) }
 {
-    match tokens {
-        [Token::Number(n), rest @ ..] => multiple(alloc, *n, rest),
-        [Token::Word(name), rest @ ..] => product(alloc, name, rest),
+    match first(tokens) {
+        Some((TokenKind::Number(n), rest)) => multiple(alloc, *n, rest),
+        Some((TokenKind::Word(name), rest)) => product(alloc, name, rest),
         _ => Err(TextFault::NotYet),
     }
 }
@@ -173,7 +188,7 @@ fn part_at(
     alloc: Global,
     tokens: &[Token],
 ) -> Result<Option<((Direction, Summand), &[Token])>, TextFault>
-    ensures { Gives (option_map (λ x. (x.0, x.1.now))) result (reading.part_at tokens.now) }
+    ensures { Gives (option_map (λ x. (x.0, kinds x.1.now))) result (reading.part_at (kinds tokens.now)) }
 {
     let Some((direction, rest)) = direction_at(tokens) else {
         return Ok(None);
@@ -186,7 +201,7 @@ fn parts(
     alloc: Global,
     tokens: &[Token],
 ) -> Result<(Items<(Direction, Summand)>, &[Token]), TextFault>
-    ensures { Gives (λ x. (x.0, x.1.now)) result (all_of reading.part_at tokens.now) }
+    ensures { Gives (λ x. (x.0, kinds x.1.now)) result (all_of reading.part_at (kinds tokens.now)) }
 {
     let mut parts = Items::new(alloc);
     let mut rest = tokens;
@@ -199,7 +214,7 @@ fn parts(
 
 #[tactic(auto, unfolding(crate::specs::Reading::sum_at))]
 fn sum_at(alloc: Global, tokens: &[Token]) -> Result<(Sum, &[Token]), TextFault>
-    ensures { Gives (λ x. (x.0, x.1.now)) result (reading.sum_at tokens.now) }
+    ensures { Gives (λ x. (x.0, kinds x.1.now)) result (reading.sum_at (kinds tokens.now)) }
 {
     let (first, rest) = summand_at(alloc, tokens)?;
     let (parts, rest) = parts(alloc, rest)?;
@@ -208,7 +223,7 @@ fn sum_at(alloc: Global, tokens: &[Token]) -> Result<(Sum, &[Token]), TextFault>
 
 #[tactic(auto, unfolding(crate::specs::Reading::comparison_at))]
 fn comparison_at(alloc: Global, tokens: &[Token]) -> Result<(Comparison, &[Token]), TextFault>
-    ensures { Gives (λ x. (x.0, x.1.now)) result (reading.comparison_at tokens.now) }
+    ensures { Gives (λ x. (x.0, kinds x.1.now)) result (reading.comparison_at (kinds tokens.now)) }
 {
     let (left, rest) = sum_at(alloc, tokens)?;
     let (relation, rest) = relation_at(rest)?;
@@ -226,9 +241,9 @@ fn comparison_at(alloc: Global, tokens: &[Token]) -> Result<(Comparison, &[Token
 /// A `&` and a comparison, if a `&` stands there.
 #[tactic(auto, unfolding(crate::specs::Reading::more_at))]
 fn more_at(alloc: Global, tokens: &[Token]) -> Result<Option<(Comparison, &[Token])>, TextFault>
-    ensures { Gives (option_map (λ x. (x.0, x.1.now))) result (reading.more_at tokens.now) }
+    ensures { Gives (option_map (λ x. (x.0, kinds x.1.now))) result (reading.more_at (kinds tokens.now)) }
 {
-    let Some(rest) = after_and(tokens) else {
+    let Some(rest) = after_sign(Sign::And, tokens) else {
         return Ok(None);
     };
     Ok(Some(comparison_at(alloc, rest)?))
@@ -240,7 +255,7 @@ fn comparisons(
     first: Comparison,
     tokens: &[Token],
 ) -> Result<(Items<Comparison>, &[Token]), TextFault>
-    ensures { Gives (λ x. (x.0, x.1.now)) result (with_front (first ∷ []) (all_of reading.more_at tokens.now)) }
+    ensures { Gives (λ x. (x.0, kinds x.1.now)) result (with_front (first ∷ []) (all_of reading.more_at (kinds tokens.now))) }
 {
     let mut comparisons = Items::new(alloc);
     comparisons.push(first)?;
@@ -257,7 +272,7 @@ fn conjunction_at(
     alloc: Global,
     tokens: &[Token],
 ) -> Result<(Items<Comparison>, &[Token]), TextFault>
-    ensures { Gives (λ x. (x.0, x.1.now)) result (reading.conjunction_at tokens.now) }
+    ensures { Gives (λ x. (x.0, kinds x.1.now)) result (reading.conjunction_at (kinds tokens.now)) }
 {
     let (first, rest) = comparison_at(alloc, tokens)?;
     comparisons(alloc, first, rest)
@@ -266,7 +281,7 @@ fn conjunction_at(
 /// A label and its conjunction, if a label stands there.
 #[tactic(auto, unfolding(crate::specs::Reading::axiom_at))]
 fn axiom_at(alloc: Global, tokens: &[Token]) -> Result<Option<(Axiom, &[Token])>, TextFault>
-    ensures { Gives (option_map (λ x. (x.0, x.1.now))) result (reading.axiom_at tokens.now) }
+    ensures { Gives (option_map (λ x. (x.0, kinds x.1.now))) result (reading.axiom_at (kinds tokens.now)) }
 {
     let Some((label, rest)) = label_at(tokens) else {
         return Ok(None);
@@ -277,7 +292,7 @@ fn axiom_at(alloc: Global, tokens: &[Token]) -> Result<Option<(Axiom, &[Token])>
 }
 
 fn facts(alloc: Global, tokens: &[Token]) -> Result<(Items<Axiom>, &[Token]), TextFault>
-    ensures { Gives (λ x. (x.0, x.1.now)) result (all_of reading.axiom_at tokens.now) }
+    ensures { Gives (λ x. (x.0, kinds x.1.now)) result (all_of reading.axiom_at (kinds tokens.now)) }
 {
     let mut facts = Items::new(alloc);
     let mut rest = tokens;
@@ -288,19 +303,19 @@ fn facts(alloc: Global, tokens: &[Token]) -> Result<(Items<Axiom>, &[Token]), Te
     Ok((facts, rest))
 }
 
-/// A constant, if no `axioms` stands there.
+/// A constant, if a word stands there.
 #[tactic(auto, unfolding(crate::specs::Reading::constant_at))]
 fn constant_at(alloc: Global, tokens: &[Token]) -> Result<Option<(Name, &[Token])>, TextFault>
-    ensures { Gives (option_map (λ x. (x.0, x.1.now))) result (reading.constant_at tokens.now) }
+    ensures { Gives (option_map (λ x. (x.0, kinds x.1.now))) result (reading.constant_at (kinds tokens.now)) }
 {
     match word_at(tokens) {
-        Some((word, rest)) if word.as_str() != "axioms" => Ok(Some((word.copied(alloc)?, rest))),
-        _ => Ok(None),
+        Some((word, rest)) => Ok(Some((word.copied(alloc)?, rest))),
+        None => Ok(None),
     }
 }
 
 fn constants(alloc: Global, tokens: &[Token]) -> Result<(Names, &[Token]), TextFault>
-    ensures { Gives (λ x. (x.0, x.1.now)) result (all_of reading.constant_at tokens.now) }
+    ensures { Gives (λ x. (x.0, kinds x.1.now)) result (all_of reading.constant_at (kinds tokens.now)) }
 {
     let mut constants = Names::new(alloc);
     let mut rest = tokens;
@@ -312,7 +327,7 @@ fn constants(alloc: Global, tokens: &[Token]) -> Result<(Names, &[Token]), TextF
 }
 
 fn name_at(alloc: Global, tokens: &[Token]) -> Result<(Name, &[Token]), TextFault>
-    ensures { Gives (λ x. (x.0, x.1.now)) result (reading.word_at tokens.now) }
+    ensures { Gives (λ x. (x.0, kinds x.1.now)) result (reading.word_at (kinds tokens.now)) }
 {
     match word_at(tokens) {
         Some((word, rest)) => Ok((word.copied(alloc)?, rest)),
@@ -323,23 +338,23 @@ fn name_at(alloc: Global, tokens: &[Token]) -> Result<(Name, &[Token]), TextFaul
 /// The name of a context and its constants, up to its axioms.
 #[tactic(auto, unfolding(crate::specs::Reading::head_at))]
 fn head_at(alloc: Global, tokens: &[Token]) -> Result<((Name, Names), &[Token]), TextFault>
-    ensures { Gives (λ x. (x.0, x.1.now)) result (reading.head_at tokens.now) }
+    ensures { Gives (λ x. (x.0, kinds x.1.now)) result (reading.head_at (kinds tokens.now)) }
 {
-    let rest = after_word(tokens, "context")?;
+    let rest = past_sign(Sign::Context, tokens)?;
     let (name, rest) = name_at(alloc, rest)?;
-    let rest = after_word(rest, "constants")?;
+    let rest = past_sign(Sign::Constants, rest)?;
     let (constants, rest) = constants(alloc, rest)?;
     Ok(((name, constants), rest))
 }
 
 #[tactic(auto, unfolding(crate::specs::Reading::context_at))]
 fn context_at(alloc: Global, tokens: &[Token]) -> Result<(Context, &[Token]), TextFault>
-    ensures { Gives (λ x. (x.0, x.1.now)) result (reading.context_at tokens.now) }
+    ensures { Gives (λ x. (x.0, kinds x.1.now)) result (reading.context_at (kinds tokens.now)) }
 {
     let ((name, constants), rest) = head_at(alloc, tokens)?;
-    let rest = after_word(rest, "axioms")?;
+    let rest = past_sign(Sign::Axioms, rest)?;
     let (axioms, rest) = facts(alloc, rest)?;
-    let rest = after_word(rest, "end")?;
+    let rest = past_sign(Sign::End, rest)?;
     Ok((
         Context {
             name,
@@ -352,9 +367,9 @@ fn context_at(alloc: Global, tokens: &[Token]) -> Result<(Context, &[Token]), Te
 
 #[tactic(auto, unfolding(crate::specs::Reading::bound_at))]
 fn bound_at(tokens: &[Token]) -> Result<(Bound, &[Token]), TextFault>
-    ensures { Gives (λ x. (x.0, x.1.now)) result (reading.bound_at tokens.now) }
+    ensures { Gives (λ x. (x.0, kinds x.1.now)) result (reading.bound_at (kinds tokens.now)) }
 {
-    let minus = after_minus(tokens);
+    let minus = after_sign(Sign::Minus, tokens);
     let (number, rest) = number_at(minus.unwrap_or(tokens))?;
     let is_negative = minus.is_some();
     Ok((
@@ -368,30 +383,30 @@ fn bound_at(tokens: &[Token]) -> Result<(Bound, &[Token]), TextFault>
 
 #[tactic(auto, unfolding(crate::specs::Reading::scope_at))]
 fn scope_at(tokens: &[Token]) -> Result<((Bound, Bound), &[Token]), TextFault>
-    ensures { Gives (λ x. (x.0, x.1.now)) result (reading.scope_at tokens.now) }
+    ensures { Gives (λ x. (x.0, kinds x.1.now)) result (reading.scope_at (kinds tokens.now)) }
 {
     let rest = after_word(tokens, "scope")?;
     let rest = after_word(rest, "int")?;
     let (lo, rest) = bound_at(rest)?;
-    let rest = after_dots(rest)?;
+    let rest = past_sign(Sign::UpTo, rest)?;
     let (hi, rest) = bound_at(rest)?;
-    let rest = after_word(rest, "end")?;
+    let rest = past_sign(Sign::End, rest)?;
     Ok(((lo, hi), rest))
 }
 
 #[tactic(auto, unfolding(crate::specs::Reading::after_query))]
 fn after_query(tokens: &[Token]) -> Result<&[Token], TextFault>
-    ensures { Gives (λ x. x.now) result (reading.after_query tokens.now) }
+    ensures { Gives (λ x. kinds x.now) result (reading.after_query (kinds tokens.now)) }
 {
     let rest = after_word(tokens, "queries")?;
-    let rest = after_word(rest, "axioms")?;
-    after_word(rest, "end")
+    let rest = past_sign(Sign::Axioms, rest)?;
+    past_sign(Sign::End, rest)
 }
 
 /// The model that the tokens of a text are, whether or not it is well formed.
 #[tactic(auto, unfolding(crate::specs::Reading::read))]
 pub fn read(alloc: Global, tokens: &[Token]) -> Result<ModelText, TextFault>
-    ensures { Gives (λ t. t) result (reading.read tokens.now) }
+    ensures { Gives (λ t. t) result (reading.read (kinds tokens.now)) }
 {
     let (context, rest) = context_at(alloc, tokens)?;
     let ((lo, hi), rest) = scope_at(rest)?;

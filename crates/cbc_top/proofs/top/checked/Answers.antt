@@ -7,7 +7,7 @@ use Rattle.cbc_top.proofs.Witnesses.{problem_integers, well_formed_scope, scope_
 use Rattle.cbc_top.proofs.top.checked.Goals as goal
 
 pub problem_of-requires : goal.problem_of-requires
-problem_of-requires c = few_constants c.requires.readable.0 c.args.text.now c.requires.readable.1
+problem_of-requires c = few_constants c.tokens_name_slices.ensures c.requires.readable.0 c.args.text.now c.requires.readable.1
 
 pub scope_of-scope-requires : goal.scope_of-scope-requires
 scope_of-scope-requires c = well_formed_scope c.args.text.now (c.requires.readable.1).well_formed
@@ -17,7 +17,7 @@ check_text-requires-clause-integers c = subst (λ (p : Problem). HaveIntegers p.
 
 pub check_text-requires-clause-few : goal.check_text-requires-clause-few
 check_text-requires-clause-few c =
-    subst (λ (p : Problem). length p.choices < 4294967296) (sym c.in_ok-problem.ensures) (few_choices c.requires.readable.0 c.args.text.now c.requires.readable.1)
+    subst (λ (p : Problem). length p.choices < 4294967296) (sym c.in_ok-problem.ensures) (few_choices c.tokens_name_slices.ensures c.requires.readable.0 c.args.text.now c.requires.readable.1)
 
 pub check_text-requires-clause-scope : goal.check_text-requires-clause-scope
 check_text-requires-clause-scope c =

@@ -16,7 +16,7 @@ returns-in-Ok-clause-front g c = λ h.
     let cut = rw c.as_slice.ensures at (c.say.ensures.cut h) in
     front_is_due (g.S.Source.files c.args.src.now) c.args.words.now c.in-Ok.bytes c.in-Ok.status _ _ cut.0 c.in-Ok.ensures.lawful cut.1 cut.2
 
-pub returns-in-Err-Refused-clause-front : goal.returns-in-Err-Refused-clause-front
-returns-in-Err-Refused-clause-front g c = λ h.
-    let cut = rw (c.as_bytes.ensures.value, c.line.ensures) at (c.say-in-Err-Refused.ensures.cut h) in
+pub returns-in-Ok-line-clause-front : goal.returns-in-Ok-line-clause-front
+returns-in-Ok-line-clause-front g c = λ h.
+    let cut = rw (c.as_slice-in-Ok-line.ensures, c.in-Ok-line.ensures) at (c.say-in-Ok-line.ensures.cut h) in
     front_is_due (g.S.Source.files c.args.src.now) c.args.words.now (refusal_text c.in-Err-Refused.refusal) Refused _ _ cut.0 (rw c.in-Err-Refused.field-0-is at c.in-Err-Refused.ensures.lawful) cut.1 cut.2

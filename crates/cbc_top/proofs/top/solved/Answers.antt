@@ -9,7 +9,7 @@ use Rattle.cbc_top.proofs.Witnesses.{problem_integers, well_formed_scope, scope_
 use Rattle.cbc_top.proofs.top.solved.Goals as goal
 
 pub problem_of-requires : goal.problem_of-requires
-problem_of-requires c = few_constants c.requires.readable.0 c.args.text.now c.requires.readable.1
+problem_of-requires c = few_constants c.tokens_name_slices.ensures c.requires.readable.0 c.args.text.now c.requires.readable.1
 
 pub scope_of-scope-requires : goal.scope_of-scope-requires
 scope_of-scope-requires c = well_formed_scope c.args.text.now (c.requires.readable.1).well_formed
@@ -19,7 +19,7 @@ search-requires-clause-integers c = subst (λ (p : Problem). HaveIntegers p.choi
 
 pub search-requires-clause-few : goal.search-requires-clause-few
 search-requires-clause-few c =
-    subst (λ (p : Problem). length p.choices < 4294967296) (sym c.in_ok-problem.ensures) (few_choices c.requires.readable.0 c.args.text.now c.requires.readable.1)
+    subst (λ (p : Problem). length p.choices < 4294967296) (sym c.in_ok-problem.ensures) (few_choices c.tokens_name_slices.ensures c.requires.readable.0 c.args.text.now c.requires.readable.1)
 
 pub search-requires-clause-scope : goal.search-requires-clause-scope
 search-requires-clause-scope c =

@@ -1,9 +1,0 @@
-use Rattle.std.proofs.Common.{◌≡◌, ◌≤◌, drop}
-use Rattle.cbc_top.specs.Tokens as spec
-use Rattle.cbc_top.proofs.text.lexer.number.Given as goal
-
-abbrev pub invariant-loop-d : goal.invariant-loop-d
-invariant-loop-d l = record {
-  within : l.value ≤ 4611686018427387904;
-  read : spec.number_on 0 l.digits ≡ spec.number_on l.value (drop l.d-index l.digits);
-}

@@ -1,0 +1,7 @@
+pub mod Levels
+pub mod Signs
+pub mod Grammar
+pub mod Tables
+pub mod Reading
+pub mod Formulas
+pub mod Spelling

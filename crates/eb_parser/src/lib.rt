@@ -1,0 +1,22 @@
+//! Formulas of Event-B, read from tokens, after Métayer and Voisin, "The Event-B Mathematical Language" (2009).
+#![tactic(auto)]
+
+mod fault;
+mod formulas;
+mod front;
+mod laws;
+mod names;
+mod part;
+mod reading;
+mod signs;
+mod spelling;
+mod table;
+
+pub use fault::ParseFault;
+pub use formulas::{FormulaKind, formula};
+pub use laws::{a_formula_has_one_reading, a_formula_reads_back};
+pub use part::Part;
+pub use spelling::spell;
+
+#[cfg(test)]
+mod tests;

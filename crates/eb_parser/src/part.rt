@@ -1,0 +1,296 @@
+ghost use Rattle.std.specs.Prelude.{◌≡◌, ◌<◌, ◌+◌, IfOk, ◌^◌};
+ghost use Rattle.eb_parser.specs.Grammar as spec;
+ghost use Rattle.eb_term.specs.Asts as trees;
+
+use super::table::{call_level, constant_level, group_of, is_pred, level, level_of, prefix_level};
+use eb_lexer::Token;
+use eb_term::{
+    Ast, Binder, Bound, Call, Constant, Identifiers, Node, Operator, Prefix, Quantifier,
+};
+use sqlite_items::{Boxed, Items};
+use std::alloc::{AllocError, Global};
+
+/// A formula with what its surroundings ask of it.
+#[derive(Drop)]
+pub struct Part {
+    pub tree: Ast,
+    /// The level of its head, from 0 for a predicate with `=>` to 14 for a primary expression.
+    pub level: u32,
+    /// It ends with the body of a quantifier.
+    pub loose: bool,
+    /// The greatest number of operators, binders, calls, braces and parentheses on a path to a leaf.
+    pub height: u32,
+}
+
+/// A number, an identifier or the like at its place.
+pub fn leaf(node: Node, place: u32) -> Part
+    ensures { result ≡ spec.leaf 14 (trees.at place node) }
+{
+    Part {
+        tree: Ast { node, place },
+        level: level::PRIM,
+        loose: false,
+        height: 0,
+    }
+}
+
+pub fn constant(constant: Constant, place: u32) -> Part
+    ensures { result ≡ spec.leaf (spec.constant_level constant) (trees.constant place constant) }
+{
+    Part {
+        tree: Ast {
+            node: Node::Constant(constant),
+            place,
+        },
+        level: constant_level(constant),
+        loose: false,
+        height: 0,
+    }
+}
+
+pub fn prefixed(
+    alloc: Global,
+    token: &Token,
+    prefix: Prefix,
+    part: Part,
+) -> Result<Part, AllocError>
+    requires { part.height + 1 < 2 ^ 32 }
+    ensures { IfOk result (λ p. p ≡ spec.prefixed token.now prefix part) }
+{
+    let loose = part.loose;
+    let height = part.height + 1;
+    let inner = Boxed::new(alloc, part.tree)?;
+    Ok(Part {
+        tree: Ast {
+            node: Node::Prefix(prefix, inner),
+            place: token.start,
+        },
+        level: prefix_level(prefix),
+        loose,
+        height,
+    })
+}
+
+pub fn called(alloc: Global, token: &Token, call: Call, part: Part) -> Result<Part, AllocError>
+    requires { part.height + 1 < 2 ^ 32 }
+    ensures { IfOk result (λ p. p ≡ spec.called token.now call part) }
+{
+    let height = part.height + 1;
+    let inner = Boxed::new(alloc, part.tree)?;
+    Ok(Part {
+        tree: Ast {
+            node: Node::Call(call, inner),
+            place: token.start,
+        },
+        level: call_level(call),
+        loose: false,
+        height,
+    })
+}
+
+/// A formula in parentheses, whose first is the token.
+pub fn bracketed(alloc: Global, token: &Token, part: Part) -> Result<Part, AllocError>
+    requires { part.height + 1 < 2 ^ 32 }
+    ensures { IfOk result (λ p. p ≡ spec.bracketed token.now part) }
+{
+    let height = part.height + 1;
+    let level = if is_pred(part.level) {
+        level::LIT
+    } else {
+        level::PRIM
+    };
+    let inner = Boxed::new(alloc, part.tree)?;
+    Ok(Part {
+        tree: Ast {
+            node: Node::Parentheses(inner),
+            place: token.start,
+        },
+        level,
+        loose: false,
+        height,
+    })
+}
+
+pub fn inverted(alloc: Global, part: Part) -> Result<Part, AllocError>
+    requires { part.height + 1 < 2 ^ 32 }
+    ensures { IfOk result (λ p. p ≡ spec.inverted part) }
+{
+    let height = part.height + 1;
+    let place = part.tree.place;
+    let inner = Boxed::new(alloc, part.tree)?;
+    Ok(Part {
+        tree: Ast {
+            node: Node::Inverse(inner),
+            place,
+        },
+        level: level::POST,
+        loose: false,
+        height,
+    })
+}
+
+pub fn joined(
+    alloc: Global,
+    operator: Operator,
+    left: Part,
+    right: Part,
+) -> Result<Part, AllocError>
+    requires left { left.height + 1 < 2 ^ 32 }
+    requires right { right.height + 1 < 2 ^ 32 }
+    ensures { IfOk result (λ p. p ≡ spec.joined operator left right) }
+{
+    let level = level_of(group_of(operator));
+    let loose = right.loose;
+    let height = left.height.max(right.height) + 1;
+    let place = left.tree.place;
+    let first = Boxed::new(alloc, left.tree)?;
+    let second = Boxed::new(alloc, right.tree)?;
+    Ok(Part {
+        tree: Ast {
+            node: Node::Operator(operator, first, second),
+            place,
+        },
+        level,
+        loose,
+        height,
+    })
+}
+
+pub fn quantified(
+    alloc: Global,
+    token: &Token,
+    quantifier: Quantifier,
+    names: Identifiers,
+    part: Part,
+) -> Result<Part, AllocError>
+    requires { part.height + 1 < 2 ^ 32 }
+    ensures { IfOk result (λ p. p ≡ spec.quantified token.now quantifier names part) }
+{
+    let height = part.height + 1;
+    let inner = Boxed::new(alloc, part.tree)?;
+    Ok(Part {
+        tree: Ast {
+            node: Node::Quantifier(quantifier, names, inner),
+            place: token.start,
+        },
+        level: level::LIT,
+        loose: true,
+        height,
+    })
+}
+
+pub fn bound_by(
+    alloc: Global,
+    token: &Token,
+    binder: Binder,
+    bound: Bound,
+    predicate: Part,
+    value: Part,
+) -> Result<Part, AllocError>
+    requires predicate { predicate.height + 1 < 2 ^ 32 }
+    requires value { value.height + 1 < 2 ^ 32 }
+    ensures { IfOk result (λ p. p ≡ spec.bound_by token.now binder bound predicate value) }
+{
+    let loose = value.loose;
+    let height = predicate.height.max(value.height) + 1;
+    let first = Boxed::new(alloc, predicate.tree)?;
+    let second = Boxed::new(alloc, value.tree)?;
+    Ok(Part {
+        tree: Ast {
+            node: Node::Binder(binder, bound, first, second),
+            place: token.start,
+        },
+        level: level::EXPR,
+        loose,
+        height,
+    })
+}
+
+pub fn comprehended(
+    alloc: Global,
+    token: &Token,
+    names: Identifiers,
+    predicate: Part,
+    value: Part,
+) -> Result<Part, AllocError>
+    requires predicate { predicate.height + 1 < 2 ^ 32 }
+    requires value { value.height + 1 < 2 ^ 32 }
+    ensures { IfOk result (λ p. p ≡ spec.comprehended token.now names predicate value) }
+{
+    let height = predicate.height.max(value.height) + 1;
+    let first = Boxed::new(alloc, predicate.tree)?;
+    let second = Boxed::new(alloc, value.tree)?;
+    Ok(Part {
+        tree: Ast {
+            node: Node::Comprehension(names, first, second),
+            place: token.start,
+        },
+        level: level::PRIM,
+        loose: false,
+        height,
+    })
+}
+
+pub fn built(alloc: Global, token: &Token, value: Part, predicate: Part) -> Result<Part, AllocError>
+    requires value { value.height + 1 < 2 ^ 32 }
+    requires predicate { predicate.height + 1 < 2 ^ 32 }
+    ensures { IfOk result (λ p. p ≡ spec.built token.now value predicate) }
+{
+    let height = value.height.max(predicate.height) + 1;
+    let first = Boxed::new(alloc, value.tree)?;
+    let second = Boxed::new(alloc, predicate.tree)?;
+    Ok(Part {
+        tree: Ast {
+            node: Node::Builder(first, second),
+            place: token.start,
+        },
+        level: level::PRIM,
+        loose: false,
+        height,
+    })
+}
+
+/// `{` and `}` apart.
+pub fn empty_braces(alloc: Global, token: &Token) -> Part
+    ensures { result ≡ spec.empty_braces token.now }
+{
+    Part {
+        tree: Ast {
+            node: Node::Extension(Items::new(alloc)),
+            place: token.start,
+        },
+        level: level::PRIM,
+        loose: false,
+        height: 0,
+    }
+}
+
+pub fn extended(token: &Token, members: Items<Ast>, height: u32) -> Part
+    requires { height + 1 < 2 ^ 32 }
+    ensures { result ≡ spec.extended token.now members height }
+{
+    Part {
+        tree: Ast {
+            node: Node::Extension(members),
+            place: token.start,
+        },
+        level: level::PRIM,
+        loose: false,
+        height: height + 1,
+    }
+}
+
+pub fn partitioned(token: &Token, members: Items<Ast>, height: u32) -> Part
+    requires { height + 1 < 2 ^ 32 }
+    ensures { result ≡ spec.partitioned token.now members height }
+{
+    Part {
+        tree: Ast {
+            node: Node::Partition(members),
+            place: token.start,
+        },
+        level: level::LIT,
+        loose: false,
+        height: height + 1,
+    }
+}
