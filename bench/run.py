@@ -1,5 +1,5 @@
 #!/usr/bin/env python3
-"""Times `solve` and `check`, the lexer, the formula reader, and the operators on large sets and
+"""Times `solve` and `check`, the reading of texts, the formula reader, and the operators on large sets and
 relations.
 
 Use: bench/run.py, after `rt run` in crates/cbc_program, crates/value_times and crates/formula_times
@@ -59,6 +59,39 @@ def token_rows():
     yield "4 MiB of tokens and a bad token", axiom * ((size - 2) // len(axiom.encode())) + "?"
 
 
+def units_of(size, unit):
+    """Units up to almost this size, in bytes."""
+    parts = []
+    length = 0
+    while length < size - 300:
+        parts.append(unit.format(len(parts)))
+        length += len(parts[-1])
+    return "".join(parts)
+
+
+def unit_rows():
+    """Texts of many small units, which are read, named and typed, and aren't answered yet: laid out in lines, or in one."""
+    integers = (
+        "context C{0}\nconstants\n  a{0}, b{0}\naxioms\n"
+        "  @sum a{0} + 12 * b{0} <= 40 & a{0} >= b{0} - 3\n  @not_seven a{0} /= 7\nend\n\n"
+    )
+    sets = (
+        "context C{0}\nsets T{0}\nconstants\n  f{0}, s{0}\naxioms\n  @function f{0} : T{0} +-> T{0}\n"
+        "  @set s{0} = dom(f{0}) \\/ {{x.x : T{0} & x |-> x : f{0} | x}}\nend\n\n"
+    )
+    for size in (1 << 20, 2 << 20, 4 << 20):
+        for name, unit in (("integers", integers), ("sets", sets)):
+            yield f"{size >> 20} MiB of contexts of {name}", units_of(size, unit)
+    for name, unit in (("integers", integers), ("sets", sets)):
+        dense = " ".join(unit.replace("@sum", "@a").replace("@not_seven", "@b").split()) + "\n"
+        yield f"4 MiB of contexts of {name}, dense", units_of(4 << 20, dense)
+    names = [f"n{k}" for k in range(100_000)]
+    axioms = " ".join(f"@a{k} {x} = {k}" for k, x in enumerate(names))
+    yield "100,000 constants of one context", f"context C constants {' '.join(names)} axioms {axioms} end\n"
+    chain = "".join(f"context C{k + 1} extends C{k} constants n{k} axioms @a n{k} = {k} end\n" for k in range(20_000))
+    yield "20,000 contexts in a chain", "context C0 end\n" + chain
+
+
 def timed(words, to=None):
     start = time.monotonic()
     child = subprocess.Popen(words, stdout=subprocess.PIPE)
@@ -107,6 +140,11 @@ def main():
                 show(name, timed([program, "solve", model_file, "--budget", str(budget)], file))
             show_check(program, model_file, tree_file, name)
     for name, text in token_rows():
+        with tempfile.NamedTemporaryFile("w", suffix=".eb") as file:
+            file.write(text)
+            file.flush()
+            show(name, timed([program, "solve", file.name]))
+    for name, text in unit_rows():
         with tempfile.NamedTemporaryFile("w", suffix=".eb") as file:
             file.write(text)
             file.flush()

@@ -1,14 +1,8 @@
 pub mod Bools
-pub mod Turns
-pub mod ReadingSound
-pub mod ReadingComplete
-pub mod UsedNames
-pub mod ScopeLaws
 pub mod TextLaws
 pub mod Narrowing
 pub mod Witnesses
 pub mod Runs
-pub mod Texts
 pub mod TreeTexts
 pub mod PrintedVerdicts
 pub mod Joins

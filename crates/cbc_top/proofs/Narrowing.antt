@@ -9,10 +9,10 @@ use Rattle.eb_term.specs.declared.term.Binary.{Binary}
 use Rattle.eb_term.specs.declared.term.Binary.TheVariants as operator
 use Rattle.eb_term.specs.declared.term.Term.{Term, the_lemmas}
 use Rattle.eb_term.specs.Terms.{unary, binary}
-use Rattle.cbc_top.specs.declared.text.syntax.Relation.{Relation}
-use Rattle.cbc_top.specs.declared.text.syntax.Relation.TheVariants as r
-use Rattle.cbc_top.specs.declared.text.syntax.Comparison.{Comparison}
-use Rattle.cbc_top.specs.declared.text.syntax.Axiom.{Axiom}
+use Rattle.linear_models.specs.declared.syntax.Relation.{Relation}
+use Rattle.linear_models.specs.declared.syntax.Relation.TheVariants as r
+use Rattle.linear_models.specs.declared.syntax.Comparison.{Comparison}
+use Rattle.linear_models.specs.declared.syntax.Axiom.{Axiom}
 use Rattle.eb_meaning.specs.Meaning.{Slot, int_of, truth_of, tested, negation, conjunction, at_most, less, truth_by, meaning, value_in, truth_in}
 use Rattle.eb_meaning.specs.Problems.{IsTrueOf, slots_of}
 use Rattle.cbc_top.specs.Models.{relation_operator, narrow_relation, sum_term, comparison_term, comparison_fact, conjunction_on, conjunction_of, axiom_term, axiom_fact}

@@ -1,5 +1,5 @@
 -- The trees that are printed have their verdict.
-use Rattle.std.proofs.Common.{◌≡◌, sym, ap, refl, ℕ, suc, ◌<◌, ◌≤◌, ◌^◌, Bool, true, false, not, ◌&&◌, ◌==◌, int_le, ℤ, pos, negsuc, ◌≤ℤ◌, List, [], ◌∷◌, ◌++◌, map, length, length-append, append_assoc, codes, decimal, arith}
+use Rattle.std.proofs.Common.{◌≡◌, sym, ap, refl, ℕ, ◌<◌, ◌≤◌, ◌^◌, Bool, true, false, not, ◌&&◌, ◌==◌, int_le, ℤ, pos, negsuc, ◌≤ℤ◌, List, [], ◌∷◌, ◌++◌, length, append_assoc, codes, decimal, arith}
 use Rattle.std.specs.List.{list_all}
 use Rattle.std.specs.Str.{all_ascii_digits}
 use Rattle.std.specs.Char.{is_ascii_digit}
@@ -14,35 +14,13 @@ use Rattle.tree_checker.specs.declared.verdict.Verdict.TheVariants as verdict
 use Rattle.tree_checker.specs.Trees.{Tree, Holds, lines_of, opens}
 use Rattle.tree_checker.specs.Texts.{IsPrinted, IsWholeText, IsVerdict, task_of, tree_text, is_one_line, is_header_line}
 use Rattle.branch_search.specs.Search.{IsRefutation, IsUndecided}
-use Rattle.cbc_top.specs.declared.text.syntax.Axiom.{Axiom}
-use Rattle.cbc_top.specs.declared.text.syntax.ModelText.{ModelText}
-use Rattle.cbc_top.specs.Grammar.{IsText, bound_value, axioms_tokens, conjunction_tokens, tokens_of}
-use Rattle.cbc_top.specs.Models.{problem_of, scope_of, axiom_fact}
+use Rattle.linear_models.specs.declared.syntax.LinearModel.{LinearModel}
+use Rattle.linear_models.specs.Language.{is_well_formed}
+use Rattle.cbc_top.specs.Models.{problem_of, scope_of}
 use Rattle.cbc_top.specs.Answers.{refuted_text, undecided_text}
 use Rattle.std.specs.Str.Parse.{digits_value}
 use Rattle.std.proofs.lemmas.Str.Parse.{IsNumeralModel, numerals_by_value, tells_all_ascii_digits}
-use Rattle.cbc_top.proofs.Texts.{Slices, few_tokens}
-use Rattle.cbc_top.proofs.Witnesses.{problem_integers, well_formed_scope, scope_filled, few_choices}
-
--- ---- the numbers of a text are small
-
-length-axioms : (as' : List Axiom) → length as' ≤ length (axioms_tokens as')
-length-axioms [] = omega arith
-length-axioms (a ∷ as') = let more = length-axioms as' in let e = length-append (conjunction_tokens a.comparisons) (axioms_tokens as') in omega arith
-
-axioms_in_tokens : (t : ModelText) → length t.context.axioms ≤ length (tokens_of t)
-axioms_in_tokens t = let few = length-axioms t.context.axioms in simp (length-append) (omega arith)
-
-length-facts : (names : List (List ℕ)) (as' : List Axiom) → length (map (axiom_fact names) as') ≡ length as'
-length-facts names [] = refl
-length-facts names (a ∷ as') = ap suc (length-facts names as')
-
-few_facts : Slices → (text : List ℕ) (t : ModelText) → IsText text t → length (problem_of t).facts ≤ 2 ^ 62
-few_facts slices text t is =
-    let tokens = few_tokens slices text t is in
-    let axioms = axioms_in_tokens t in
-    let facts = length-facts t.context.constants t.context.axioms in
-    omega arith
+use Rattle.cbc_top.proofs.Witnesses.{problem_integers, well_formed_scope, scope_filled, few_choices, few_facts}
 
 low_small : (lo hi : ℤ) → (int_le (negsuc 32767) lo && int_le lo hi && int_le hi (pos 32767)) ≡ true → in_range lo ≡ true
 low_small lo hi h = grind (arith, ints)
@@ -76,16 +54,16 @@ SmallTrees = (scope : Scope) → (problem : Problem) → (first : Store) → (tr
 abbrev pub PrintedTexts : Type 0
 PrintedTexts = (problem : Problem) → (first : Store) → (text : List ℕ) → (count : ℕ) → IsPrinted (task_of problem first) text count → IsWholeText (task_of problem first) text count
 
-are_small : SmallTrees → Slices → (text : List ℕ) (t : ModelText) (first : Store) (tree : Tree) → IsText text t → IsFirst (scope_of t) (problem_of t).choices first → Holds (problem_of t).facts first tree
+are_small : SmallTrees → (t : LinearModel) (first : Store) (tree : Tree) → is_well_formed t ≡ true → IsFirst (scope_of t) (problem_of t).choices first → Holds (problem_of t).facts first tree
     → list_all has_small_numbers (lines_of tree) ≡ true
-are_small small slices text t first tree is is_first holds =
-    let scope = well_formed_scope t is.well_formed in
-    small (scope_of t) (problem_of t) first tree (problem_integers t) (scope_filled t scope) (low_small (bound_value t.lo) (bound_value t.hi) scope) (high_small (bound_value t.lo) (bound_value t.hi) scope)
-    (few_choices slices text t is) (few_facts slices text t is) is_first holds
+are_small small t first tree is is_first holds =
+    let scope = well_formed_scope t is in
+    small (scope_of t) (problem_of t) first tree (problem_integers t) (scope_filled t scope) (low_small t.lo t.hi scope) (high_small t.lo t.hi scope)
+    (few_choices t is) (few_facts t is) is_first holds
 
-pub refuted_verdict : SmallTrees → PrintedTexts → Slices → (text : List ℕ) (t : ModelText) (budget : ℕ) (tree : Tree) → IsText text t → IsRefutation (scope_of t) (problem_of t) budget tree
+pub refuted_verdict : SmallTrees → PrintedTexts → (t : LinearModel) (budget : ℕ) (tree : Tree) → is_well_formed t ≡ true → IsRefutation (scope_of t) (problem_of t) budget tree
     → IsVerdict (scope_of t) (problem_of t) (refuted_text tree) verdict.Accepted
-refuted_verdict small printed slices text t budget tree is r = (
+refuted_verdict small printed t budget tree is r = (
   r.first,
   r.is_first,
   printed (problem_of t) r.first (refuted_text tree) 0 (record {
@@ -93,15 +71,15 @@ refuted_verdict small printed slices text t budget tree is r = (
     are_headers = refl;
     tree = tree;
     holds = r.holds;
-    small = are_small small slices text t r.first tree is r.is_first r.holds;
+    small = are_small small t r.first tree is r.is_first r.holds;
     printed = refl;
     open_lines = sym r.closed;
   }),
 )
 
-pub undecided_verdict : SmallTrees → PrintedTexts → Slices → (text : List ℕ) (t : ModelText) (budget : ℕ) (tree : Tree) → budget < 2 ^ 64 → IsText text t → IsUndecided (scope_of t) (problem_of t) budget tree
+pub undecided_verdict : SmallTrees → PrintedTexts → (t : LinearModel) (budget : ℕ) (tree : Tree) → budget < 2 ^ 64 → is_well_formed t ≡ true → IsUndecided (scope_of t) (problem_of t) budget tree
     → IsVerdict (scope_of t) (problem_of t) (undecided_text budget tree) (verdict.Partial (opens (lines_of tree)))
-undecided_verdict small printed slices text t budget tree fits is u = (
+undecided_verdict small printed t budget tree fits is u = (
   u.first,
   u.is_first,
   (
@@ -111,7 +89,7 @@ undecided_verdict small printed slices text t budget tree fits is u = (
       are_headers = rw (budget_header budget fits) refl;
       tree = tree;
       holds = u.holds;
-      small = are_small small slices text t u.first tree is u.is_first u.holds;
+      small = are_small small t u.first tree is u.is_first u.holds;
       printed = ap (λ z. codes "query axioms\nundecided " ++ z) (sym (append_assoc (decimal budget) (10 ∷ []) (tree_text tree)));
       open_lines = refl;
     }),

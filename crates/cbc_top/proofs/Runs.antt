@@ -1,5 +1,5 @@
 -- What a run wrote.
-use Rattle.std.proofs.Common.{◌≡◌, ◌≢◌, sym, subst, ap, Result, ℕ, ◌<◌, ◌≤◌, List, length, take, drop, inl, inr, arith, refl, true, false}
+use Rattle.std.proofs.Common.{◌≡◌, ◌≢◌, sym, subst, ap, Result, ℕ, ◌<◌, ◌≤◌, List, [], length, take, drop, inl, inr, arith, refl, true, false}
 use Rattle.std.specs.Prelude.{Option, Some, None, Ok, Err, nat_le}
 use Rattle.std.specs.Io.KnownBytes.{Appends}
 use Rattle.std.proofs.lemmas.List.{take-append-drop, length-drop}
@@ -8,20 +8,19 @@ use Rattle.cbc_outside.specs.Outside as outside
 use Rattle.cbc_top.specs.declared.status.Status.{Status}
 use Rattle.cbc_top.specs.declared.status.Status.TheVariants.{Decided, NotHeld, Refused, Undecided, ReadFault, WriteFault, Memory}
 use Rattle.cbc_top.specs.declared.refusal.Refusal.{Refusal}
-use Rattle.cbc_top.specs.declared.refusal.Refusal.TheVariants.{Words, TooLong, NotUtf8, BadToken, NotYet}
-use Rattle.cbc_top.specs.declared.top.Stop.{Stop}
-use Rattle.cbc_top.specs.declared.top.Stop.TheVariants as stop
-use Rattle.cbc_top.specs.declared.text.syntax.ModelText.{ModelText}
-use Rattle.cbc_top.specs.declared.text.fault.TextFault.{TextFault}
-use Rattle.cbc_top.specs.declared.text.fault.TextFault.TheVariants as faults
-use Rattle.cbc_top.specs.Grammar.{IsText, IsFaultOf}
+use Rattle.cbc_top.specs.declared.refusal.Refusal.TheVariants.{Words, TooLong, NotYet}
+use Rattle.cbc_top.specs.declared.stop.Stop.{Stop}
+use Rattle.cbc_top.specs.declared.stop.Stop.TheVariants as stop
+use Rattle.linear_models.specs.declared.syntax.LinearModel.{LinearModel}
+use Rattle.cbc_top.specs.Texts.{IsText, RefusesText}
 use Rattle.cbc_top.specs.Answers.{IsJudged}
+use Rattle.cbc_words.specs.declared.action.Action.{Action}
 use Rattle.cbc_words.specs.declared.action.Action.TheVariants as action
 use Rattle.cbc_words.specs.declared.action.Command.{Command}
 use Rattle.cbc_words.specs.Words.{command_of}
 use Rattle.cbc_top.specs.ModelFiles.{ModelBytes, missing, too_long, whole, joined, IsOneOf}
-use Rattle.cbc_top.specs.Run.{IsWhole, refusal_text, RefusesText, OnModel, OnTree, OnAction, OnCommand, Run, Begins, ForFiles, Writes, IsModel, ActsInOrder}
-use Rattle.cbc_top.specs.Due.{stop_of, ReadsModel, ReadsTree, DueBy}
+use Rattle.cbc_top.specs.Run.{IsWhole, refusal_text, OnModel, IsSolved, OnTree, OnAction, OnCommand, Run, Begins, ForFiles, Writes, IsModel, ActsInOrder}
+use Rattle.cbc_top.specs.Due.{StopsText, ReadsModel, ReadsTree, DueBy}
 
 pub only_write : (s : Status) → (IsWhole s → ⊥) → (s ≢ ReadFault) × (s ≢ Memory) → s ≡ WriteFault
 only_write Decided h o = absurd (h tt)
@@ -55,7 +54,7 @@ is_not_at_most n m h = grind arith
 
 -- ---- the model of some bytes
 
-model_read : (bytes : ModelBytes) (text : List ℕ) (t : ModelText) → bytes ≡ whole text → IsText text t → ReadsModel bytes (Ok t)
+model_read : (bytes : ModelBytes) (text : List ℕ) (t : Option LinearModel) → bytes ≡ whole text → IsText text t → ReadsModel bytes (Ok t)
 model_read bytes text t e is = subst (λ z. ReadsModel z (Ok t)) (sym e) is
 
 model_refused : (bytes : ModelBytes) (text : List ℕ) (refusal : Refusal) → bytes ≡ whole text → RefusesText text refusal → ReadsModel bytes (Err (stop.Refused refusal))
@@ -64,23 +63,22 @@ model_refused bytes text refusal e refuses = subst (λ z. ReadsModel z (Err (sto
 model_long : (bytes : ModelBytes) → bytes ≡ too_long → ReadsModel bytes (Err (stop.Refused TooLong))
 model_long bytes e = subst (λ z. ReadsModel z (Err (stop.Refused TooLong))) (sym e) refl
 
-pub model_of_files : (files : Option Files) (names : List (List ℕ)) (text : List ℕ) (t : ModelText) → ForFiles files (λ fs. joined fs names ≡ whole text) → IsText text t
+pub model_of_files : (files : Option Files) (names : List (List ℕ)) (text : List ℕ) (t : Option LinearModel) → ForFiles files (λ fs. joined fs names ≡ whole text) → IsText text t
     → ForFiles files (λ fs. ReadsModel (joined fs names) (Ok t))
 model_of_files None names text t e is = tt
 model_of_files (Some fs) names text t e is = model_read (joined fs names) text t e is
 
--- a text is refused for its fault
+-- a text ends the run
 
-model_faulty : (bytes : ModelBytes) (text : List ℕ) (fault : TextFault) → bytes ≡ whole text → IsFaultOf text fault → ReadsModel bytes (Err (stop_of fault))
-model_faulty bytes text faults.NotUtf8 e cause = model_refused bytes text NotUtf8 e cause
-model_faulty bytes text (faults.BadToken place) e cause = model_refused bytes text (BadToken place) e cause
-model_faulty bytes text faults.NotYet e cause = model_refused bytes text NotYet e cause
-model_faulty bytes text faults.Memory e cause = tt
+model_stops : (bytes : ModelBytes) (text : List ℕ) (e : Stop) → bytes ≡ whole text → StopsText text e → ReadsModel bytes (Err e)
+model_stops bytes text (stop.Refused refusal) e cause = model_refused bytes text refusal e cause
+model_stops bytes text stop.ReadFault e cause = tt
+model_stops bytes text stop.Memory e cause = tt
 
-pub faulty_model : (files : Option Files) (names : List (List ℕ)) (text : List ℕ) (fault : TextFault) → ForFiles files (λ fs. joined fs names ≡ whole text) → IsFaultOf text fault
-    → ForFiles files (λ fs. ReadsModel (joined fs names) (Err (stop_of fault)))
-faulty_model None names text fault e cause = tt
-faulty_model (Some fs) names text fault e cause = model_faulty (joined fs names) text fault e cause
+pub stopped_model : (files : Option Files) (names : List (List ℕ)) (text : List ℕ) (e : Stop) → ForFiles files (λ fs. joined fs names ≡ whole text) → StopsText text e
+    → ForFiles files (λ fs. ReadsModel (joined fs names) (Err e))
+stopped_model None names text e is cause = tt
+stopped_model (Some fs) names text e is cause = model_stops (joined fs names) text e is cause
 
 pub long_model : (files : Option Files) (names : List (List ℕ)) → ForFiles files (λ fs. joined fs names ≡ too_long) → ForFiles files (λ fs. ReadsModel (joined fs names) (Err (stop.Refused TooLong)))
 long_model None names e = tt
@@ -104,55 +102,71 @@ long_tree (Some fs) file longer = tree_refused (lookup fs file) longer.0 longer.
 
 -- ---- what is due on them
 
-on_model : (Due : ModelText → List ℕ → Status → Type 0) (bytes : ModelBytes) (t : ModelText) (out : List ℕ) (status : Status) → ReadsModel bytes (Ok t) → Due t out status
+on_model : (Due : Option LinearModel → List ℕ → Status → Type 0) (bytes : ModelBytes) (t : Option LinearModel) (out : List ℕ) (status : Status) → ReadsModel bytes (Ok t) → Due t out status
     → OnModel Due bytes out status
 on_model Due missing t out status reads due = absurd reads
 on_model Due too_long t out status reads due = absurd reads
 on_model Due (whole text) t out status reads due = inl (t, reads, due)
 
-pub due_on_model : (files : Option Files) (names : List (List ℕ)) (Due : Files → ModelText → List ℕ → Status → Type 0) (t : ModelText) (out : List ℕ) (status : Status)
+pub due_on_model : (files : Option Files) (names : List (List ℕ)) (Due : Files → Option LinearModel → List ℕ → Status → Type 0) (t : Option LinearModel) (out : List ℕ) (status : Status)
     → ForFiles files (λ fs. ReadsModel (joined fs names) (Ok t)) → ForFiles files (λ fs. Due fs t out status) → ForFiles files (λ fs. OnModel (Due fs) (joined fs names) out status)
 due_on_model None names Due t out status reads due = tt
 due_on_model (Some fs) names Due t out status reads due = on_model (Due fs) (joined fs names) t out status reads due
 
 -- a model that wasn't read
-not_read : (Due : ModelText → List ℕ → Status → Type 0) (bytes : ModelBytes) (e : Stop) → ReadsModel bytes (Err e) → DueBy (OnModel Due bytes) (Err e)
+not_read : (Due : Option LinearModel → List ℕ → Status → Type 0) (bytes : ModelBytes) (e : Stop) → ReadsModel bytes (Err e) → DueBy (OnModel Due bytes) (Err e)
 not_read Due bytes stop.ReadFault reads = tt
 not_read Due bytes stop.Memory reads = tt
 not_read Due missing (stop.Refused refusal) reads = absurd reads
 not_read Due too_long (stop.Refused refusal) reads = (ap refusal_text reads, refl)
 not_read Due (whole text) (stop.Refused refusal) reads = inr (refusal, reads, (refl, refl))
 
-pub due_without_model : (files : Option Files) (names : List (List ℕ)) (Due : Files → ModelText → List ℕ → Status → Type 0) (e : Stop)
+pub due_without_model : (files : Option Files) (names : List (List ℕ)) (Due : Files → Option LinearModel → List ℕ → Status → Type 0) (e : Stop)
     → ForFiles files (λ fs. ReadsModel (joined fs names) (Err e)) → ForFiles files (λ fs. DueBy (OnModel (Due fs) (joined fs names)) (Err e))
 due_without_model None names Due e reads = tt
 due_without_model (Some fs) names Due e reads = not_read (Due fs) (joined fs names) e reads
 
-on_tree : (file : Option (List ℕ)) (t : ModelText) (tree bytes : List ℕ) (status : Status) → ReadsTree file (Ok tree) → IsJudged t tree bytes status → OnTree file t bytes status
+on_tree : (file : Option (List ℕ)) (t : LinearModel) (tree bytes : List ℕ) (status : Status) → ReadsTree file (Ok tree) → IsJudged t tree bytes status → OnTree file (Some t) bytes status
 on_tree None t tree bytes status reads judged = absurd reads
 on_tree (Some text) t tree bytes status reads judged = rw (reads.1) (subst (λ z. IsJudged t z bytes status) (sym reads.0) judged)
 
-pub due_on_tree : (files : Option Files) (file : List ℕ) (t : ModelText) (tree bytes : List ℕ) (status : Status) → ForFiles files (λ fs. ReadsTree (lookup fs file) (Ok tree))
-    → IsJudged t tree bytes status → ForFiles files (λ fs. OnTree (lookup fs file) t bytes status)
+pub due_on_tree : (files : Option Files) (file : List ℕ) (t : LinearModel) (tree bytes : List ℕ) (status : Status) → ForFiles files (λ fs. ReadsTree (lookup fs file) (Ok tree))
+    → IsJudged t tree bytes status → ForFiles files (λ fs. OnTree (lookup fs file) (Some t) bytes status)
 due_on_tree None file t tree bytes status reads judged = tt
 due_on_tree (Some fs) file t tree bytes status reads judged = on_tree (lookup fs file) t tree bytes status reads judged
 
-tree_not_read : (file : Option (List ℕ)) (t : ModelText) (e : Stop) → ReadsTree file (Err e) → DueBy (OnTree file t) (Err e)
+tree_not_read : (file : Option (List ℕ)) (t : LinearModel) (e : Stop) → ReadsTree file (Err e) → DueBy (OnTree file (Some t)) (Err e)
 tree_not_read file t stop.ReadFault reads = tt
 tree_not_read file t stop.Memory reads = tt
 tree_not_read None t (stop.Refused refusal) reads = absurd reads
 tree_not_read (Some text) t (stop.Refused refusal) reads = rw (reads.1, reads.0) (refl, refl)
 
 -- a model whose tree wasn't read
-without_tree : (model : ModelBytes) (tree : Option (List ℕ)) (t : ModelText) (e : Stop) → ReadsModel model (Ok t) → DueBy (OnTree tree t) (Err e) → DueBy (OnModel (OnTree tree) model) (Err e)
+without_tree : (model : ModelBytes) (tree : Option (List ℕ)) (t : LinearModel) (e : Stop) → ReadsModel model (Ok (Some t)) → DueBy (OnTree tree (Some t)) (Err e) → DueBy (OnModel (OnTree tree) model) (Err e)
 without_tree model tree t stop.ReadFault reads due = tt
 without_tree model tree t stop.Memory reads due = tt
-without_tree model tree t (stop.Refused refusal) reads due = on_model (OnTree tree) model t _ _ reads due
+without_tree model tree t (stop.Refused refusal) reads due = on_model (OnTree tree) model (Some t) _ _ reads due
 
-pub due_without_tree : (files : Option Files) (names : List (List ℕ)) (tree : List ℕ) (t : ModelText) (e : Stop) → ForFiles files (λ fs. ReadsModel (joined fs names) (Ok t))
+pub due_without_tree : (files : Option Files) (names : List (List ℕ)) (tree : List ℕ) (t : LinearModel) (e : Stop) → ForFiles files (λ fs. ReadsModel (joined fs names) (Ok (Some t)))
     → ForFiles files (λ fs. ReadsTree (lookup fs tree) (Err e)) → ForFiles files (λ fs. DueBy (OnModel (OnTree (lookup fs tree)) (joined fs names)) (Err e))
 due_without_tree None names tree t e reads unread = tt
 due_without_tree (Some fs) names tree t e reads unread = without_tree (joined fs names) (lookup fs tree) t e reads (tree_not_read (lookup fs tree) t e unread)
+
+-- a text that holds no model has nothing to judge a tree by
+tree_alone : (tree : Option (List ℕ)) → OnTree tree None (refusal_text NotYet) Refused
+tree_alone None = (refl, refl)
+tree_alone (Some text) = (refl, refl)
+
+pub nothing_to_judge : (files : Option Files) (names : List (List ℕ)) (tree : List ℕ) → ForFiles files (λ fs. ReadsModel (joined fs names) (Ok None))
+    → ForFiles files (λ fs. DueBy (OnModel (OnTree (lookup fs tree)) (joined fs names)) (Err (stop.Refused NotYet)))
+nothing_to_judge None names tree reads = tt
+nothing_to_judge (Some fs) names tree reads = on_model (OnTree (lookup fs tree)) (joined fs names) None _ _ reads (tree_alone (lookup fs tree))
+
+-- and nothing is asked of it
+pub nothing_to_solve : (files : Option Files) (names : List (List ℕ)) (budget : ℕ) → ForFiles files (λ fs. ReadsModel (joined fs names) (Ok None))
+    → ForFiles files (λ fs. OnModel (IsSolved budget) (joined fs names) [] Decided)
+nothing_to_solve None names budget reads = tt
+nothing_to_solve (Some fs) names budget reads = on_model (IsSolved budget) (joined fs names) None [] Decided reads (refl, refl)
 
 -- a fact that needs no file
 pub always_due : (files : Option Files) (P : Type 0) → P → ForFiles files (λ fs. P)
@@ -165,12 +179,12 @@ pub fails_at_model : (files : Option Files) (names : List (List ℕ)) (tree : Li
 fails_at_model None names tree name is = tt
 fails_at_model (Some fs) names tree name is = inl is
 
-model_there : (bytes : ModelBytes) (t : ModelText) → ReadsModel bytes (Ok t) → IsModel bytes
+model_there : (bytes : ModelBytes) (t : LinearModel) → ReadsModel bytes (Ok (Some t)) → IsModel bytes
 model_there missing t reads = absurd reads
 model_there too_long t reads = absurd reads
 model_there (whole text) t reads = (t, reads)
 
-pub fails_behind_model : (files : Option Files) (names : List (List ℕ)) (tree : List ℕ) (name : Option (List ℕ)) (t : ModelText) → ForFiles files (λ fs. ReadsModel (joined fs names) (Ok t))
+pub fails_behind_model : (files : Option Files) (names : List (List ℕ)) (tree : List ℕ) (name : Option (List ℕ)) (t : LinearModel) → ForFiles files (λ fs. ReadsModel (joined fs names) (Ok (Some t)))
     → ForFiles files (λ fs. ActsInOrder (action.Check names tree) fs name)
 fails_behind_model None names tree name t reads = tt
 fails_behind_model (Some fs) names tree name t reads = inr (model_there (joined fs names) t reads)
@@ -185,6 +199,16 @@ pub due_at_command : (files : Option Files) (words : List (List ℕ)) (command :
     → ForFiles files (λ fs. DueBy (OnAction command.action command.budget fs) result) → ForFiles files (λ fs. DueBy (Run words fs) result)
 due_at_command None words command result e due = tt
 due_at_command (Some fs) words command result e due = subst (λ z. DueBy (OnCommand z fs) result) (sym e) due
+
+same_budget : (files : Files) (a : Action) (names : List (List ℕ)) (tree : List ℕ) (budget : ℕ) (result : Result (List ℕ × Status) Stop) → a ≡ action.Check names tree
+    → DueBy (OnAction (action.Check names tree) 0 files) result → DueBy (OnAction a budget files) result
+same_budget files a names tree budget result e due = subst (λ b. DueBy (OnAction b budget files) result) (sym e) due
+
+pub due_at_checking : (files : Option Files) (words : List (List ℕ)) (command : Command) (names : List (List ℕ)) (tree : List ℕ) (result : Result (List ℕ × Status) Stop) → command_of words ≡ Some command
+    → command.action ≡ action.Check names tree → ForFiles files (λ fs. DueBy (OnAction (action.Check names tree) 0 fs) result) → ForFiles files (λ fs. DueBy (Run words fs) result)
+due_at_checking None words command names tree result e is due = tt
+due_at_checking (Some fs) words command names tree result e is due =
+    due_at_command (Some fs) words command result e (same_budget fs command.action names tree command.budget result is due)
 
 pub refused_command : (files : Option Files) (words : List (List ℕ)) → command_of words ≡ None → ForFiles files (λ fs. DueBy (Run words fs) (Err (stop.Refused Words)))
 refused_command None words e = tt

@@ -15,11 +15,11 @@ use Rattle.tree_checker.specs.Texts.{IsVerdict, joined, tree_text}
 use Rattle.branch_search.specs.Search.{IsRefutation, IsUndecided}
 use Rattle.cbc_top.specs.declared.status.Status.{Status}
 use Rattle.cbc_top.specs.declared.status.Status.TheVariants.{Decided, NotHeld, Undecided}
-use Rattle.cbc_top.specs.declared.text.syntax.ModelText.{ModelText}
+use Rattle.linear_models.specs.declared.syntax.LinearModel.{LinearModel}
 use Rattle.cbc_top.specs.Models.{axiom_term, problem_of, scope_of}
 
 -- The constants have values of their types in the scope, of which each axiom is True.
-pub record IsWitness (t : ModelText) (values : List Value) : Type 0 where
+pub record IsWitness (t : LinearModel) (values : List Value) : Type 0 where
   pub valuation : IsValuation (scope_of t) (problem_of t).choices values
   pub all : All (λ a. IsTrueOf values (axiom_term t.context.constants a)) t.context.axioms
 
@@ -46,7 +46,7 @@ abbrev pub undecided_text : ℕ → Tree → List ℕ
 undecided_text budget tree = codes "query axioms\nundecided " ++ (decimal budget ++ (codes "\n" ++ tree_text tree))
 
 -- a witness; a refutation; or a tree that leaves boxes open since the budget was spent
-abbrev pub IsAnswer : ModelText → ℕ → List ℕ → Status → Type 0
+abbrev pub IsAnswer : LinearModel → ℕ → List ℕ → Status → Type 0
 IsAnswer t budget bytes status =
     ((values : List Value) × IsWitness t values × (bytes ≡ found_text t.context.constants values) × (status ≡ Decided))
     ⊎ ((tree : Tree) × IsRefutation (scope_of t) (problem_of t) budget tree × (bytes ≡ refuted_text tree) × (status ≡ Decided))
@@ -75,6 +75,6 @@ status_of (verdict.Partial count) = NotHeld
 status_of (verdict.Refused n cause) = NotHeld
 
 -- the verdict on a tree's text for the problem of a model
-abbrev pub IsJudged : ModelText → List ℕ → List ℕ → Status → Type 0
+abbrev pub IsJudged : LinearModel → List ℕ → List ℕ → Status → Type 0
 IsJudged t tree bytes status =
     (verdict : Verdict) × IsVerdict (scope_of t) (problem_of t) tree verdict × (bytes ≡ verdict_text verdict) × (status ≡ status_of verdict)

@@ -2,29 +2,28 @@
 use Rattle.std.specs.Prelude.{◌≡◌, ⊤, ℕ, nat_le, true, false, List, length, Option, Some, None, Result, Ok, Err}
 use Rattle.cbc_top.specs.declared.status.Status.{Status}
 use Rattle.cbc_top.specs.declared.status.Status.TheVariants.{Refused}
-use Rattle.cbc_top.specs.declared.refusal.Refusal.TheVariants.{TooLong, NotUtf8, BadToken, NotYet}
-use Rattle.cbc_top.specs.declared.top.Stop.{Stop}
-use Rattle.cbc_top.specs.declared.top.Stop.TheVariants as stop
-use Rattle.cbc_top.specs.declared.text.fault.TextFault.{TextFault}
-use Rattle.cbc_top.specs.declared.text.fault.TextFault.TheVariants as fault
-use Rattle.cbc_top.specs.declared.text.syntax.ModelText.{ModelText}
-use Rattle.cbc_top.specs.Grammar.{IsText}
+use Rattle.cbc_top.specs.declared.refusal.Refusal.TheVariants.{TooLong, NotYet}
+use Rattle.cbc_top.specs.declared.stop.Stop.{Stop}
+use Rattle.cbc_top.specs.declared.stop.Stop.TheVariants as stop
+use Rattle.linear_models.specs.declared.syntax.LinearModel.{LinearModel}
+use Rattle.linear_models.specs.Language.{is_well_formed}
+use Rattle.cbc_top.specs.Texts.{IsText, RefusesText}
 use Rattle.cbc_top.specs.ModelFiles.{ModelBytes, missing, too_long, whole}
-use Rattle.cbc_top.specs.Run.{refusal_text, RefusesText}
+use Rattle.cbc_top.specs.Run.{refusal_text}
 
--- some text is read as this
-abbrev pub IsReadable : ModelText → Type 0
-IsReadable t = (text : List ℕ) × IsText text t
+-- the model keeps the conditions of the language, where there is one
+abbrev pub IsReadable : Option LinearModel → Type 0
+IsReadable None = ⊤
+IsReadable (Some t) = is_well_formed t ≡ true
 
--- how a fault of a text ends a run
-abbrev pub stop_of : TextFault → Stop
-stop_of fault.NotUtf8 = stop.Refused NotUtf8
-stop_of (fault.BadToken place) = stop.Refused (BadToken place)
-stop_of fault.NotYet = stop.Refused NotYet
-stop_of fault.Memory = stop.Memory
+-- why a text ends a run
+abbrev pub StopsText : List ℕ → Stop → Type 0
+StopsText text (stop.Refused refusal) = RefusesText text refusal
+StopsText text stop.ReadFault = ⊥
+StopsText text stop.Memory = ⊤
 
 -- the model of some bytes, or why it is refused
-abbrev pub ReadsModel : ModelBytes → Result ModelText Stop → Type 0
+abbrev pub ReadsModel : ModelBytes → Result (Option LinearModel) Stop → Type 0
 ReadsModel bytes (Err stop.ReadFault) = ⊤
 ReadsModel bytes (Err stop.Memory) = ⊤
 ReadsModel missing (Ok t) = ⊥

@@ -1,5 +1,5 @@
-pub mod Grammar
-pub mod Reading
+pub mod Texts
+pub mod Stops
 pub mod Models
 pub mod Answers
 pub mod Run

@@ -10,17 +10,16 @@ use Rattle.eb_term.specs.declared.term.Term.{Term}
 use Rattle.eb_term.specs.declared.problem.Choice.{Choice}
 use Rattle.eb_term.specs.declared.problem.Problem.{Problem}
 use Rattle.eb_term.specs.Terms.{truth, integer, reference, unary, binary}
-use Rattle.cbc_top.specs.declared.text.syntax.Relation.{Relation}
-use Rattle.cbc_top.specs.declared.text.syntax.Relation.TheVariants as r
-use Rattle.cbc_top.specs.declared.text.syntax.Direction.{Direction}
-use Rattle.cbc_top.specs.declared.text.syntax.Direction.TheVariants as d
-use Rattle.cbc_top.specs.declared.text.syntax.Summand.{Summand}
-use Rattle.cbc_top.specs.declared.text.syntax.Summand.TheVariants as summand
-use Rattle.cbc_top.specs.declared.text.syntax.Sum.{Sum}
-use Rattle.cbc_top.specs.declared.text.syntax.Comparison.{Comparison}
-use Rattle.cbc_top.specs.declared.text.syntax.Axiom.{Axiom}
-use Rattle.cbc_top.specs.declared.text.syntax.ModelText.{ModelText}
-use Rattle.cbc_top.specs.Grammar.{bound_value}
+use Rattle.linear_models.specs.declared.syntax.Relation.{Relation}
+use Rattle.linear_models.specs.declared.syntax.Relation.TheVariants as r
+use Rattle.linear_models.specs.declared.syntax.Direction.{Direction}
+use Rattle.linear_models.specs.declared.syntax.Direction.TheVariants as d
+use Rattle.linear_models.specs.declared.syntax.Summand.{Summand}
+use Rattle.linear_models.specs.declared.syntax.Summand.TheVariants as summand
+use Rattle.linear_models.specs.declared.syntax.Sum.{Sum}
+use Rattle.linear_models.specs.declared.syntax.Comparison.{Comparison}
+use Rattle.linear_models.specs.declared.syntax.Axiom.{Axiom}
+use Rattle.linear_models.specs.declared.syntax.LinearModel.{LinearModel}
 
 -- where a name stands first in a list, from a place on
 abbrev pub place_from : ℕ → List (List ℕ) → List ℕ → ℕ
@@ -94,12 +93,12 @@ abbrev pub choice_of : List ℕ → Choice
 choice_of name = record { name = name; ty = type_of.integer }
 
 -- The choices are the constants and the facts the axioms, in the order of declaration.
-abbrev pub problem_of : ModelText → Problem
+abbrev pub problem_of : LinearModel → Problem
 problem_of t = record {
   choices = map choice_of t.context.constants;
   facts = map (axiom_fact t.context.constants) t.context.axioms;
 }
 
 -- There are no carrier sets, and the depth is that of a text without one.
-abbrev pub scope_of : ModelText → Scope
-scope_of t = record { lo = bound_value t.lo; hi = bound_value t.hi; sizes = []; depth = 3 }
+abbrev pub scope_of : LinearModel → Scope
+scope_of t = record { lo = t.lo; hi = t.hi; sizes = []; depth = 3 }

@@ -1,18 +1,16 @@
 -- What a run writes, and how it ends.
 use Rattle.std.specs.Prelude.{◌≡◌, ◌⊎◌, ⊤, ℕ, ◌<◌, nat_le, MatchBool, List, [], ◌++◌, length, codes, decimal, Option, Some, None}
-use Rattle.std.specs.Str.{IsUtf8}
-use Rattle.eb_lexer.specs.Tokens.{IsBadAt}
 use Rattle.cbc_outside.specs.Outside.{Files, lookup}
 use Rattle.cbc_top.specs.declared.status.Status.{Status}
-use Rattle.cbc_top.specs.declared.status.Status.TheVariants.{Refused, ReadFault, WriteFault, Memory}
+use Rattle.cbc_top.specs.declared.status.Status.TheVariants.{Decided, Refused, ReadFault, WriteFault, Memory}
 use Rattle.cbc_top.specs.declared.refusal.Refusal.{Refusal}
-use Rattle.cbc_top.specs.declared.refusal.Refusal.TheVariants.{Words, TooLong, NotUtf8, BadToken, NotYet}
+use Rattle.cbc_top.specs.declared.refusal.Refusal.TheVariants.{Words, TooLong, NotUtf8, BadToken, TooDeep, Syntax, Unsupported, DuplicateName, UnknownName, TypeClash, TypeOpen, NotYet}
 use Rattle.cbc_words.specs.declared.action.Action.{Action}
 use Rattle.cbc_words.specs.declared.action.Action.TheVariants as action
 use Rattle.cbc_words.specs.declared.action.Command.{Command}
 use Rattle.cbc_words.specs.Words.{command_of}
-use Rattle.cbc_top.specs.declared.text.syntax.ModelText.{ModelText}
-use Rattle.cbc_top.specs.Grammar.{IsText, IsForeign}
+use Rattle.linear_models.specs.declared.syntax.LinearModel.{LinearModel}
+use Rattle.cbc_top.specs.Texts.{IsText, RefusesText}
 use Rattle.cbc_top.specs.ModelFiles.{ModelBytes, missing, too_long, whole, joined, IsOneOf}
 use Rattle.cbc_top.specs.Answers.{IsAnswer, IsJudged}
 
@@ -23,45 +21,55 @@ IsWhole WriteFault = ⊥
 IsWhole Memory = ⊥
 IsWhole _ = ⊤
 
-abbrev pub bad_token_text : ℕ → List ℕ
-bad_token_text place = codes "refused E2 BadToken " ++ (decimal place ++ codes "\n")
+-- the line of a refusal at a place, in bytes
+abbrev pub place_text : List ℕ → ℕ → List ℕ
+place_text front place = front ++ (decimal place ++ codes "\n")
+
+-- the line of a refusal of a name
+abbrev pub name_text : List ℕ → List ℕ → List ℕ
+name_text front name = front ++ (name ++ codes "\n")
 
 -- the line of a refusal
 abbrev pub refusal_text : Refusal → List ℕ
 refusal_text Words = codes "refused E14 Words\n"
 refusal_text TooLong = codes "refused E13 TooLong\n"
 refusal_text NotUtf8 = codes "refused E1 NotUtf8\n"
-refusal_text (BadToken place) = bad_token_text place
+refusal_text (BadToken place) = place_text (codes "refused E2 BadToken ") place
+refusal_text TooDeep = codes "refused E4 TooDeep\n"
+refusal_text (Syntax place) = place_text (codes "refused E3 Syntax ") place
+refusal_text (Unsupported place) = place_text (codes "refused E12 Unsupported ") place
+refusal_text (DuplicateName name) = name_text (codes "refused E6 DuplicateName ") name
+refusal_text (UnknownName name) = name_text (codes "refused E5 UnknownName ") name
+refusal_text TypeClash = codes "refused E7 TypeClash\n"
+refusal_text TypeOpen = codes "refused E8 TypeOpen\n"
 refusal_text NotYet = codes "refused E15 NotYet\n"
 
 abbrev pub IsRefusal : Refusal → List ℕ → Status → Type 0
 IsRefusal refusal bytes status = (bytes ≡ refusal_text refusal) × (status ≡ Refused)
 
--- why a text of a model is refused: it isn't UTF-8; or no token begins at this byte, the first such place; or it has tokens and
--- isn't of the language
-abbrev pub RefusesText : List ℕ → Refusal → Type 0
-RefusesText text NotUtf8 = IsUtf8 text → ⊥
-RefusesText text (BadToken place) = IsBadAt place text
-RefusesText text NotYet = IsForeign text
-RefusesText text _ = ⊥
-
--- What is due on a model's bytes: what is due on the model, or the refusal. A file that isn't there ends
+-- What is due on a model's bytes: what is due on what they hold, or the refusal. A file that isn't there ends
 -- in a fault.
-abbrev pub OnModel : (ModelText → List ℕ → Status → Type 0) → ModelBytes → List ℕ → Status → Type 0
+abbrev pub OnModel : (Option LinearModel → List ℕ → Status → Type 0) → ModelBytes → List ℕ → Status → Type 0
 OnModel Due missing bytes status = ⊥
 OnModel Due too_long bytes status = IsRefusal TooLong bytes status
 OnModel Due (whole text) bytes status =
-    ((t : ModelText) × IsText text t × Due t bytes status)
+    ((t : Option LinearModel) × IsText text t × Due t bytes status)
     ⊎ ((refusal : Refusal) × RefusesText text refusal × IsRefusal refusal bytes status)
 
--- a tree's file has at most 16 MiB
-abbrev pub OnTree : Option (List ℕ) → ModelText → List ℕ → Status → Type 0
-OnTree None t bytes status = ⊥
-OnTree (Some tree) t bytes status = MatchBool (nat_le (length tree) 16777216) (IsJudged t tree bytes status) (IsRefusal NotYet bytes status)
+-- a text without a query has no answer
+abbrev pub IsSolved : ℕ → Option LinearModel → List ℕ → Status → Type 0
+IsSolved budget None bytes status = (bytes ≡ []) × (status ≡ Decided)
+IsSolved budget (Some t) bytes status = IsAnswer t budget bytes status
+
+-- A tree is judged by a model. Its file has at most 16 MiB.
+abbrev pub OnTree : Option (List ℕ) → Option LinearModel → List ℕ → Status → Type 0
+OnTree tree None bytes status = IsRefusal NotYet bytes status
+OnTree None (Some t) bytes status = ⊥
+OnTree (Some tree) (Some t) bytes status = MatchBool (nat_le (length tree) 16777216) (IsJudged t tree bytes status) (IsRefusal NotYet bytes status)
 
 -- The model is judged before the tree's file. Some actions aren't built yet.
 abbrev pub OnAction : Action → ℕ → Files → List ℕ → Status → Type 0
-OnAction (action.Solve names) budget files bytes status = OnModel (λ t. IsAnswer t budget) (joined files names) bytes status
+OnAction (action.Solve names) budget files bytes status = OnModel (IsSolved budget) (joined files names) bytes status
 OnAction (action.Check names tree) budget files bytes status = OnModel (OnTree (lookup files tree)) (joined files names) bytes status
 OnAction (action.Cover names) budget files bytes status = IsRefusal NotYet bytes status
 OnAction (action.Replay names test) budget files bytes status = IsRefusal NotYet bytes status
@@ -94,7 +102,7 @@ IsFileOf (Some command) name = IsFileOfAction command.action name
 abbrev pub IsModel : ModelBytes → Type 0
 IsModel missing = ⊥
 IsModel too_long = ⊥
-IsModel (whole text) = (t : ModelText) × IsText text t
+IsModel (whole text) = (t : LinearModel) × IsText text (Some t)
 
 abbrev pub ActsInOrder : Action → Files → Option (List ℕ) → Type 0
 ActsInOrder (action.Check names tree) files name = IsOneOf names name ⊎ IsModel (joined files names)

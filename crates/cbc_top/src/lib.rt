@@ -1,7 +1,7 @@
 //! The whole program behind its words: one call, `run`.
 //!
-//! The definitions that its contract cites stand in `specs/`, by room: the words (`Words`), the text
-//! (`Grammar`), its problem (`Models`), the answers (`Answers`) and the run (`Run`).
+//! The definitions that its contract cites stand in `specs/`, by room: the text (`Texts`), its problem (`Models`), the
+//! answers (`Answers`) and the run (`Run`).
 #![tactic(auto)]
 
 mod answer;
@@ -10,6 +10,7 @@ mod model_files;
 mod problem;
 mod refusal;
 mod status;
+mod stop;
 mod text;
 mod top;
 
@@ -19,10 +20,6 @@ pub use laws::{
 pub use problem::{problem_of, scope_of};
 pub use refusal::Refusal;
 pub use status::Status;
-pub use text::syntax::{
-    Axiom, Bound, Comparison, Context, Direction, ModelText, Relation, Sum, Summand,
-};
-pub use text::{TextFault, model_text};
 pub use top::run;
 
 #[cfg(test)]

@@ -1,11 +1,9 @@
 ghost use Rattle.std.specs.Prelude.{◌≡◌, ◌<◌, ◌^◌, map, length, true, IfOk};
-ghost use Rattle.cbc_top.specs.Grammar.{has_scope};
 ghost use Rattle.cbc_top.specs.Models as spec;
 
-use crate::text::ends_of;
-use crate::text::syntax::{Axiom, Comparison, Direction, ModelText, Relation, Sum, Summand};
 use eb_term::{Binary, Choice, Choices, Problem, Term, Terms, Unary};
 use eb_value::{Name, Scope, Sizes};
+use linear_models::{Axiom, Comparison, Direction, LinearModel, Relation, Sum, Summand};
 use std::alloc::{AllocError, Global};
 
 /// Where a name stands among the constants, 0 for another name.
@@ -161,7 +159,7 @@ fn choices_of(alloc: Global, names: &[Name]) -> Result<Choices, AllocError>
 
 /// The problem of the text's query: a choice for each constant and a fact, in narrow form, for
 /// each axiom. The only error is want of memory.
-pub fn problem_of(alloc: Global, text: &ModelText) -> Result<Problem, AllocError>
+pub fn problem_of(alloc: Global, text: &LinearModel) -> Result<Problem, AllocError>
     requires { length text.now.context.constants < 2 ^ 32 }
     ensures { IfOk result (λ problem. problem ≡ spec.problem_of text.now) }
 {
@@ -172,17 +170,13 @@ pub fn problem_of(alloc: Global, text: &ModelText) -> Result<Problem, AllocError
 }
 
 /// The scope of the text's query.
-pub fn scope_of(alloc: Global, text: &ModelText) -> Scope
-    requires { has_scope text.now ≡ true }
+pub fn scope_of(alloc: Global, text: &LinearModel) -> Scope
     ensures { result ≡ spec.scope_of text.now }
 {
-    match ends_of(text) {
-        Some((lo, hi)) => Scope {
-            lo,
-            hi,
-            sizes: Sizes::new(alloc),
-            depth: 3,
-        },
-        None => unreachable!(),
+    Scope {
+        lo: text.lo,
+        hi: text.hi,
+        sizes: Sizes::new(alloc),
+        depth: 3,
     }
 }

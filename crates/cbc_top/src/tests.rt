@@ -7,8 +7,6 @@ use std::test::Fail;
 
 mod budgets;
 mod faults;
-mod languages;
-mod spellings;
 mod trees;
 
 const NOT_YET: &str = "refused E15 NotYet\n";

@@ -1,41 +1,77 @@
-// From the bytes of a model to its syntax.
+//! From the bytes of a model's text to what it holds.
 ghost use Rattle.std.specs.Prelude.{◌<◌, ◌^◌, length, IfOk, IfErr};
-ghost use Rattle.cbc_top.specs.Grammar as spec;
+ghost use Rattle.cbc_top.specs.Texts as spec;
+ghost use Rattle.cbc_top.specs.Due as due;
 
-mod conditions;
-mod fault;
-mod reader;
-pub mod syntax;
-
-use self::conditions::is_well_formed;
-use self::reader::read;
-use self::syntax::ModelText;
-pub use conditions::ends_of;
-use eb_lexer::{a_text_is_read_in_one_way, tokens};
-pub use fault::TextFault;
+use crate::refusal::Refusal;
+use crate::stop::Stop;
+use eb_infer::infer;
+use eb_lexer::{a_text_is_read_in_one_way, tokens, tokens_name_slices};
+use eb_lower::names;
+use eb_term::Units;
+use eb_units::{a_text_has_one_reading, units};
+use linear_models::{LinearModel, linear_model};
 use std::alloc::Global;
 
-/// How many bytes a text has at most.
+/// How many bytes a model's text has at most.
 const LONGEST: usize = 65536;
 
-/// The model that a text is, which has fewer than 2^32 bytes.
+/// The units of a text.
+fn units_of(alloc: Global, text: &[u8]) -> Result<Units, Stop>
+    requires { length text.now < 2 ^ 32 }
+    ensures read { IfOk result (spec.AreUnits text.now) }
+    ensures cause { IfErr result (due.StopsText text.now) }
+{
+    tokens_name_slices();
+    let tokens = tokens(alloc, text)?;
+    let units = units(alloc, &tokens)?;
+    Ok(units)
+}
+
+/// The units of a text, with lawful names.
+fn named_units(alloc: Global, text: &[u8]) -> Result<Units, Stop>
+    requires { length text.now < 2 ^ 32 }
+    ensures read { IfOk result (spec.AreNamedUnits text.now) }
+    ensures cause { IfErr result (due.StopsText text.now) }
+{
+    let units = units_of(alloc, text)?;
+    names(alloc, units.as_slice())?;
+    Ok(units)
+}
+
+/// The units of a text, with lawful names and types.
+fn typed_units(alloc: Global, text: &[u8]) -> Result<Units, Stop>
+    requires { length text.now < 2 ^ 32 }
+    ensures read { IfOk result (spec.AreTypedUnits text.now) }
+    ensures cause { IfErr result (due.StopsText text.now) }
+{
+    let units = named_units(alloc, text)?;
+    let _types = infer(alloc, units.as_slice())?;
+    Ok(units)
+}
+
+/// The model that a text is, or none where it has no units and so asks nothing. The text has fewer than 2^32 bytes.
 ///
-/// Errors: `NotUtf8` where the text isn't UTF-8; else `BadToken` with the first place, in bytes, at which neither white space
-/// nor a comment nor a token begins, where there is one; else `NotYet` where the text is none of the language. `Memory` only
-/// where memory ran out. The tokens are those of Métayer and Voisin, "The Event-B Mathematical Language" (2009).
-pub fn model_text(alloc: Global, text: &[u8]) -> Result<ModelText, TextFault>
+/// Errors: the refusal of a text, in this order: `NotUtf8`; `BadToken` with the first place, in bytes, at which neither white
+/// space nor a comment nor a token begins; `TooDeep` and `Syntax` where the tokens have no reading as units with formulas of
+/// heights up to 200; the faults of their names; `TypeClash` and `TypeOpen`; `NotYet` where the units are no model that is answered today. Else `Memory`,
+/// only where memory ran out.
+pub fn model_text(alloc: Global, text: &[u8]) -> Result<Option<LinearModel>, Stop>
     requires { length text.now < 2 ^ 32 }
     ensures read { IfOk result (spec.IsText text.now) }
-    ensures cause { IfErr result (spec.IsFaultOf text.now) }
+    ensures cause { IfErr result (due.StopsText text.now) }
 {
     a_text_is_read_in_one_way();
-    let tokens = tokens(alloc, text)?;
+    a_text_has_one_reading();
+    let units = typed_units(alloc, text)?;
+    if units.as_slice().is_empty() {
+        return Ok(None);
+    }
     if text.len() > LONGEST {
-        return Err(TextFault::NotYet);
+        return Err(Stop::Refused(Refusal::NotYet));
     }
-    let model = read(alloc, tokens.as_slice())?;
-    if !is_well_formed(&model) {
-        return Err(TextFault::NotYet);
+    match linear_model(alloc, units.as_slice())? {
+        Some(model) => Ok(Some(model)),
+        None => Err(Stop::Refused(Refusal::NotYet)),
     }
-    Ok(model)
 }

@@ -1,8 +1,7 @@
-ghost use Rattle.std.specs.Prelude.{◌≡◌, ◌≢◌, ◌<◌, ◌≤◌, ◌^◌, length, IfOk, Some, Err};
+ghost use Rattle.std.specs.Prelude.{◌≡◌, ◌≢◌, true, ◌<◌, ◌≤◌, ◌^◌, length, IfOk, Some, Err};
 ghost use Rattle.std.specs.Io.KnownBytes.{Appends};
 ghost use Rattle.cbc_outside.specs.Outside.{Rose, AppendsFront, lookup};
-ghost use Rattle.cbc_top.specs.declared.top.Stop.TheVariants.{Memory};
-ghost use Rattle.cbc_top.specs.Grammar.{IsText};
+ghost use Rattle.linear_models.specs.Language.{is_well_formed};
 ghost use Rattle.cbc_words.specs.Words.{command_of};
 ghost use Rattle.cbc_top.specs.ModelFiles as files_of;
 ghost use Rattle.cbc_top.specs.Answers as answers;
@@ -14,13 +13,13 @@ use crate::model_files::joined;
 use crate::problem::{problem_of, scope_of};
 use crate::refusal::Refusal;
 use crate::status::Status;
-use crate::text::syntax::ModelText;
-use crate::text::{TextFault, model_text};
+use crate::stop::Stop;
+use crate::text::model_text;
 use branch_search::{Answer, search};
 use cbc_outside::{ReadStop, Sink, Source, read_all, write_all};
 use cbc_words::{Action, WordsFault, command};
-use eb_lexer::tokens_name_slices;
 use eb_value::{Bytes, Name, Names};
+use linear_models::LinearModel;
 use std::alloc::{AllocError, Global};
 use tree_checker::{Verdict, check_text};
 
@@ -30,27 +29,11 @@ const LONGEST_TREE: u64 = 16 << 20;
 /// What is written, and the status after it.
 type Due = (Bytes, Status);
 
-/// Why a run ends without an answer.
-enum Stop {
-    Refused(Refusal),
-    ReadFault,
-    Memory,
-}
-
-impl From<AllocError> for Stop {
-    ghost from_gives = { λ _ e. e ≡ Memory };
-
-    fn from(_: AllocError) -> Stop {
-        Stop::Memory
-    }
-}
-
 /// The answer to the query of a text.
-fn solved(alloc: Global, text: &ModelText, budget: u64) -> Result<Due, AllocError>
-    requires readable { due.IsReadable text.now }
+fn solved(alloc: Global, text: &LinearModel, budget: u64) -> Result<Due, AllocError>
+    requires { is_well_formed text.now ≡ true }
     ensures { IfOk result (λ d. answers.IsAnswer text.now budget d.0 d.1) }
 {
-    tokens_name_slices();
     let problem = problem_of(alloc, text)?;
     let scope = scope_of(alloc, text);
     match search(alloc, &problem, &scope, budget)? {
@@ -69,6 +52,18 @@ fn solved(alloc: Global, text: &ModelText, budget: u64) -> Result<Due, AllocErro
     }
 }
 
+/// The answers to the queries of a text.
+fn solved_text(alloc: Global, model: Option<LinearModel>, budget: u64) -> Result<Due, AllocError>
+    requires { due.IsReadable model }
+    ensures lawful { IfOk result (λ d. spec.IsSolved budget model d.0 d.1) }
+    ensures whole { IfOk result (λ d. spec.IsWhole d.1) }
+{
+    match model {
+        Some(text) => solved(alloc, &text, budget),
+        None => Ok((Bytes::new(alloc), Status::Decided)),
+    }
+}
+
 /// The status after a verdict.
 fn status_of(verdict: Verdict) -> Status
     ensures { result ≡ answers.status_of verdict }
@@ -80,12 +75,11 @@ fn status_of(verdict: Verdict) -> Status
 }
 
 /// The verdict on a tree for the problem of a text.
-fn checked(alloc: Global, text: &ModelText, tree: &[u8]) -> Result<Due, AllocError>
-    requires readable { due.IsReadable text.now }
+fn checked(alloc: Global, text: &LinearModel, tree: &[u8]) -> Result<Due, AllocError>
+    requires well_formed { is_well_formed text.now ≡ true }
     requires short { length tree.now ≤ 16777216 }
     ensures { IfOk result (λ d. answers.IsJudged text.now tree.now d.0 d.1) }
 {
-    tokens_name_slices();
     let problem = problem_of(alloc, text)?;
     let scope = scope_of(alloc, text);
     let verdict = check_text(alloc, &problem, &scope, tree)?;
@@ -93,20 +87,12 @@ fn checked(alloc: Global, text: &ModelText, tree: &[u8]) -> Result<Due, AllocErr
     Ok((bytes, status_of(verdict)))
 }
 
-/// How a fault of a model's text ends a run.
-fn stop_of(fault: TextFault) -> Stop
-    ensures { result ≡ due.stop_of fault }
-{
-    match fault {
-        TextFault::NotUtf8 => Stop::Refused(Refusal::NotUtf8),
-        TextFault::BadToken(place) => Stop::Refused(Refusal::BadToken(place)),
-        TextFault::NotYet => Stop::Refused(Refusal::NotYet),
-        TextFault::Memory => Stop::Memory,
-    }
-}
-
 /// The model of some files.
-fn model_in<S: Source>(alloc: Global, src: &mut S, names: &[Name]) -> Result<ModelText, Stop>
+fn model_in<S: Source>(
+    alloc: Global,
+    src: &mut S,
+    names: &[Name],
+) -> Result<Option<LinearModel>, Stop>
     ensures same { S.files src.new ≡ S.files src.old }
     ensures read { spec.ForFiles (S.files src.old) (λ files. due.ReadsModel (files_of.joined files names.now) result) }
     ensures readable { IfOk result due.IsReadable }
@@ -115,10 +101,7 @@ fn model_in<S: Source>(alloc: Global, src: &mut S, names: &[Name]) -> Result<Mod
     ensures kept { IfOk result (λ t. S.faults src.new ≡ S.faults src.old) }
 {
     match joined(alloc, src, names) {
-        Ok(text) => match model_text(alloc, text.as_slice()) {
-            Ok(model) => Ok(model),
-            Err(fault) => Err(stop_of(fault)),
-        },
+        Ok(text) => model_text(alloc, text.as_slice()),
         Err(ReadStop::TooLong) => Err(Stop::Refused(Refusal::TooLong)),
         Err(ReadStop::Failed) => Err(Stop::ReadFault),
         Err(ReadStop::Memory) => Err(Stop::Memory),
@@ -152,8 +135,8 @@ fn due_at_solve<S: Source>(
     ensures fault { result ≡ Err Stop.ReadFault → Rose (S.faults src.old) (S.faults src.new) }
     ensures named { result ≡ Err Stop.ReadFault → spec.IsFileOfAction (Action.Solve names) (S.fault_name src.new) }
 {
-    let text = model_in(alloc, src, names.as_slice())?;
-    let due = solved(alloc, &text, budget)?;
+    let model = model_in(alloc, src, names.as_slice())?;
+    let due = solved_text(alloc, model, budget)?;
     Ok(due)
 }
 
@@ -170,10 +153,15 @@ fn due_at_check<S: Source>(
     ensures named { result ≡ Err Stop.ReadFault → spec.IsFileOfAction (Action.Check names tree) (S.fault_name src.new) }
     ensures order { result ≡ Err Stop.ReadFault → spec.ForFiles (S.files src.old) (λ files. spec.ActsInOrder (Action.Check names tree) files (S.fault_name src.new)) }
 {
-    let text = model_in(alloc, src, names.as_slice())?;
-    let tree = tree_in(alloc, src, tree)?;
-    let due = checked(alloc, &text, tree.as_slice())?;
-    Ok(due)
+    let model = model_in(alloc, src, names.as_slice())?;
+    match model {
+        Some(text) => {
+            let tree = tree_in(alloc, src, tree)?;
+            let due = checked(alloc, &text, tree.as_slice())?;
+            Ok(due)
+        }
+        None => Err(Stop::Refused(Refusal::NotYet)),
+    }
 }
 
 /// What is due at these words.
@@ -215,14 +203,18 @@ fn say<K: Sink>(out: &mut K, bytes: &[u8], status: Status) -> Status
 
 /// Carries out the command that the words say, over the source's files, and writes to the sink.
 ///
-/// `solve FILE` answers the query of a model: `found` with values of the constants that make
+/// `solve FILE..` answers the query of a model: `found` with values of the constants that make
 /// each axiom well-defined and true; `refuted` with a tree that shows that there are none in
 /// the scope; or `undecided` with a tree that leaves boxes open, after as many splits as the budget
-/// allows. `check FILE TREE` judges a tree, whoever wrote it, by the model: `accepted`, `partial`
-/// with the number of open boxes, or `refused` with the first line at fault and its cause. Anything
-/// else is refused with one line: `E14` the words, `E13` a model file that is too long, `E1` a model
-/// that isn't UTF-8, `E2` with the first byte at which no token begins, `E15` a model that isn't of
-/// the language or a tree file that is too long. Of several causes the one that stands first here counts.
+/// allows. A text without units asks nothing, and nothing is written. `check FILE.. TREE` judges a tree, whoever
+/// wrote it, by the model: `accepted`, `partial` with the number of open boxes, or `refused` with the first line
+/// at fault and its cause. Anything else is refused with one line. Of several causes the one that stands first here counts:
+/// `E14` the words; `E13` model files that are too long; `E1` a model that isn't UTF-8; `E2` with the first byte at which no token
+/// begins; `E4` a formula that is higher than 200; `E3` with the place of a token, or the end, where the tokens are no text; `E12`
+/// with the place of the first word that isn't supported; `E6` with the first name that is declared a second time; `E5`
+/// with the first name that is used without a declaration; `E7` where there are no types for all identifiers, `E8` where
+/// there are several; `E15` a model that isn't of the language that is answered today, or
+/// a tree file that is too long.
 pub fn run<S: Source, K: Sink>(alloc: Global, words: &[Name], src: &mut S, out: &mut K) -> Status
     // Where no fault and no want of memory ended it, what it wrote and its status are lawful.
     ensures answers { spec.IsWhole result → spec.ForFiles (S.files src.old) (λ files.

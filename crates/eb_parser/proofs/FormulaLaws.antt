@@ -27,7 +27,7 @@ use Rattle.eb_parser.proofs.SpellingLaws.{spelled, again}
 use Rattle.eb_parser.proofs.Respelling.{known, known_drop, known_take, reread}
 use Rattle.eb_parser.proofs.Deepness.{height_below, read_long}
 
-high : (k : FormulaKind) (l : ℕ) → IsTrue (fits k l) → least_of k ≤ l
+pub high : (k : FormulaKind) (l : ℕ) → IsTrue (fits k l) → least_of k ≤ l
 high formula.Pred l h = omega arith
 high formula.Expr l h = grind (arith, nat_tests)
 

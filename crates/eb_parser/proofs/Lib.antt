@@ -13,3 +13,4 @@ pub mod FormulaLaws
 pub mod SpellingLaws
 pub mod SpellingSteps
 pub mod Respelling
+mod FrontLaws

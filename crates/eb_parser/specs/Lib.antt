@@ -5,3 +5,4 @@ pub mod Tables
 pub mod Reading
 pub mod Formulas
 pub mod Spelling
+pub mod Fronts

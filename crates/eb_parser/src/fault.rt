@@ -1,5 +1,6 @@
 ghost use Rattle.std.specs.Prelude.{◌≡◌};
 ghost use Rattle.eb_parser.specs.declared.fault.Stop.TheVariants as stop;
+ghost use Rattle.eb_parser.specs.declared.fault.ParseFault.TheVariants as parse;
 
 use std::alloc::{AllocError, AllocFailed};
 use thiserror::Error;
@@ -16,6 +17,14 @@ pub enum ParseFault {
     /// Memory ran out.
     #[error("memory ran out")]
     Memory,
+}
+
+impl From<AllocError> for ParseFault {
+    ghost from_gives = { λ _ e. e ≡ parse.Memory };
+
+    fn from(_error: AllocError) -> ParseFault {
+        ParseFault::Memory
+    }
 }
 
 /// Why a reading ended without a formula.

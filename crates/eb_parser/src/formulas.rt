@@ -2,6 +2,7 @@ ghost use Rattle.std.specs.Prelude.{◌≡◌, ◌-◌, ◌<◌, ◌≤◌, ◌�
 ghost use Rattle.eb_term.specs.declared.ast.Ast.{Ast};
 ghost use Rattle.eb_parser.specs.declared.fault.ParseFault.TheVariants as fault;
 ghost use Rattle.eb_parser.specs.Formulas as spec;
+ghost use Rattle.eb_parser.specs.Fronts as fronts;
 
 use super::fault::{Fault, ParseFault, Stop};
 use super::part::Part;
@@ -89,6 +90,7 @@ pub fn formula(
     requires { length tokens.now < 2 ^ 32 }
     ensures found { IfOk result (λ x. (h : ℕ) × (h ≤ 200) × spec.IsLongest kind tokens.now from x.1 x.0 h) }
     ensures cause { IfErr result (λ f. spec.IsFaultOf kind tokens.now from f) }
+    ensures exact { fronts.Finds tokens.now result (fronts.formula_at 201 kind (drop from tokens.now)) }
     ensures high { (end : ℕ) (a : Ast) (h : ℕ) → spec.IsLongest kind tokens.now from end a h → 200 < h → (result ≡ Err fault.TooDeep) ⊎ (result ≡ Err fault.Memory) }
     ensures complete { (end : ℕ) (a : Ast) (h : ℕ) → spec.IsLongest kind tokens.now from end a h → h ≤ 200 → (spec.Continues (drop end tokens.now) → ⊥) → (result ≡ Ok (a, end)) ⊎ (result ≡ Err fault.Memory) }
 {

@@ -14,7 +14,7 @@ mod table;
 
 pub use fault::ParseFault;
 pub use formulas::{FormulaKind, formula};
-pub use laws::{a_formula_has_one_reading, a_formula_reads_back};
+pub use laws::{a_formula_has_one_reading, a_formula_reads_back, formulas_are_found_at_the_front};
 pub use part::Part;
 pub use spelling::spell;
 

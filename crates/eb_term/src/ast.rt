@@ -279,7 +279,11 @@ impl Identifier {
     }
 }
 
-fn identifiers_copied(alloc: Global, identifiers: &[Identifier]) -> Result<Identifiers, AllocError>
+/// Equal identifiers. The only error is want of memory.
+pub fn identifiers_copied(
+    alloc: Global,
+    identifiers: &[Identifier],
+) -> Result<Identifiers, AllocError>
     ensures { IfOk result (λ copy. copy ≡ identifiers.now) }
 {
     let mut copy = Identifiers::new(alloc);
@@ -371,8 +375,8 @@ impl Ast {
                 let value = boxed(alloc, value.get())?;
                 Node::Builder(value, boxed(alloc, condition.get())?)
             }
-            Node::Extension(members) => Node::Extension(row(alloc, members.as_slice())?),
-            Node::Partition(members) => Node::Partition(row(alloc, members.as_slice())?),
+            Node::Extension(members) => Node::Extension(asts_copied(alloc, members.as_slice())?),
+            Node::Partition(members) => Node::Partition(asts_copied(alloc, members.as_slice())?),
         };
         Ok(Ast {
             node,
@@ -389,8 +393,9 @@ fn boxed(alloc: Global, ast: &Ast) -> Result<Boxed<Ast>, AllocError>
     Boxed::new(alloc, copy)
 }
 
+/// Equal formulas. The only error is want of memory.
 #[cycle(copying)]
-fn row(alloc: Global, members: &[Ast]) -> Result<Items<Ast>, AllocError>
+pub fn asts_copied(alloc: Global, members: &[Ast]) -> Result<Items<Ast>, AllocError>
     ensures { IfOk result (λ copy. copy ≡ members.now) }
 {
     let mut copy = Items::new(alloc);

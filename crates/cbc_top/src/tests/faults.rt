@@ -111,10 +111,10 @@ fn words_are_judged(rt: HostRuntime) -> Result<(), Fail> {
     Ok(())
 }
 
-/// The actions that aren't built yet, and a model that stands twice in the joined text.
+/// The actions that aren't built yet.
 #[test]
 fn some_actions_are_not_built(rt: HostRuntime) -> Result<(), Fail> {
-    let words = "cover/m;replay/m/t;gen/1000000;solve/m/m";
+    let words = "cover/m;replay/m/t;gen/1000000";
     let other = first_other(rt.alloc(), words, MODEL, NOT_YET, Status::Refused)?;
     assert_eq!(rt; other.as_str(), "");
     Ok(())
@@ -147,7 +147,9 @@ fn model_files_are_joined(rt: HostRuntime) -> Result<(), Fail> {
         first,
         b"2 end scope int 0..20 end queries axioms end",
     )?;
-    assert!(rt; ends_with(&ended, NOT_YET, Status::Refused));
+    assert!(rt; ended.0.as_slice().starts_with(b"refused E3 Syntax "));
+    let ended = outcome(alloc, "solve/m/m", MODEL.as_bytes())?;
+    assert!(rt; ends_with(&ended, "refused E6 DuplicateName C\n", Status::Refused));
     Ok(())
 }
 
@@ -160,8 +162,21 @@ fn joined_files_have_a_length(rt: HostRuntime) -> Result<(), Fail> {
     let mut more = Vec::new(alloc);
     more.resize(2 << 20, b' ')?;
     let ended = solved_in_two(alloc, more.as_slice(), blanks.as_slice())?;
-    assert!(rt; ends_with(&ended, NOT_YET, Status::Refused));
+    assert!(rt; ends_with(&ended, "", Status::Decided));
     let ended = solved_in_two(alloc, more.as_slice(), more.as_slice())?;
     assert!(rt; ends_with(&ended, "refused E13 TooLong\n", Status::Refused));
+    Ok(())
+}
+
+/// The words are judged before the text, and the model before the tree's file.
+#[test]
+fn causes_have_an_order(rt: HostRuntime) -> Result<(), Fail> {
+    let alloc = rt.alloc();
+    let ended = outcome(alloc, "solve", b"\xff")?;
+    assert!(rt; ends_with(&ended, NO_COMMAND, Status::Refused));
+    let ended = outcome(alloc, "check/m/t", b"machine ?")?;
+    assert!(rt; ends_with(&ended, "refused E2 BadToken 8\n", Status::Refused));
+    let ended = outcome(alloc, "check/m/t", b"")?;
+    assert!(rt; ends_with(&ended, NOT_YET, Status::Refused));
     Ok(())
 }

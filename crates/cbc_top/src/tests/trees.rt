@@ -127,7 +127,7 @@ fn tree_files_are_judged_behind_their_model(rt: HostRuntime) -> Result<(), Fail>
     assert_eq!(rt; ended.0.as_slice(), b"".as_slice());
     assert_eq!(rt; ended.1, Status::ReadFault);
     let ended = outcome_with(alloc, "check/m/t", b"machine", None)?;
-    assert_eq!(rt; ended.0.as_slice(), NOT_YET.as_bytes());
+    assert!(rt; ended.0.as_slice().starts_with(b"refused E3 Syntax "));
     // 16 MiB of blanks are a text without a line, and one byte more is too long.
     let mut tree = Vec::new(alloc);
     tree.resize(16 << 20, b' ')?;

@@ -4,26 +4,22 @@ use Rattle.eb_term.specs.declared.problem.Problem.{Problem}
 use Rattle.eb_meaning.specs.Problems.{IsSolution}
 use Rattle.occ_store.specs.Stores.{HaveIntegers}
 use Rattle.cbc_top.specs.Models as models
-use Rattle.cbc_top.proofs.Texts.{few_constants}
-use Rattle.cbc_top.proofs.Witnesses.{problem_integers, well_formed_scope, scope_filled, few_choices, found_answer}
+use Rattle.cbc_top.proofs.Witnesses.{problem_integers, well_formed_scope, scope_filled, constants_fit, few_choices, found_answer}
 use Rattle.cbc_top.proofs.top.solved.Goals as goal
 
 pub problem_of-requires : goal.problem_of-requires
-problem_of-requires c = few_constants c.tokens_name_slices.ensures c.requires.readable.0 c.args.text.now c.requires.readable.1
-
-pub scope_of-scope-requires : goal.scope_of-scope-requires
-scope_of-scope-requires c = well_formed_scope c.args.text.now (c.requires.readable.1).well_formed
+problem_of-requires c = constants_fit c.args.text.now c.requires
 
 pub search-requires-clause-integers : goal.search-requires-clause-integers
 search-requires-clause-integers c = subst (λ (p : Problem). HaveIntegers p.choices) (sym c.in_ok-problem.ensures) (problem_integers c.args.text.now)
 
 pub search-requires-clause-few : goal.search-requires-clause-few
 search-requires-clause-few c =
-    subst (λ (p : Problem). length p.choices < 4294967296) (sym c.in_ok-problem.ensures) (few_choices c.tokens_name_slices.ensures c.requires.readable.0 c.args.text.now c.requires.readable.1)
+    subst (λ (p : Problem). length p.choices < 4294967296) (sym c.in_ok-problem.ensures) (few_choices c.args.text.now c.requires)
 
 pub search-requires-clause-scope : goal.search-requires-clause-scope
 search-requires-clause-scope c =
-    subst (λ (s : Scope). s.lo ≤ℤ s.hi) (sym c.scope_of-scope.ensures) (scope_filled c.args.text.now (well_formed_scope c.args.text.now (c.requires.readable.1).well_formed))
+    subst (λ (s : Scope). s.lo ≤ℤ s.hi) (sym c.scope_of-scope.ensures) (scope_filled c.args.text.now (well_formed_scope c.args.text.now c.requires))
 
 pub returns-in-Found : goal.returns-in-Found
 returns-in-Found c =

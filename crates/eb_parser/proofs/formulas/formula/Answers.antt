@@ -5,6 +5,8 @@ use Rattle.eb_parser.specs.Formulas.{fits, place_of}
 use Rattle.eb_parser.specs.Reading.{read}
 use Rattle.eb_parser.proofs.Equations.{fails_at}
 use Rattle.eb_parser.proofs.FormulaLaws.{at, same_read, no_formula, wrong_kind, found_means, high_means, deep_means, same_answer, ok_deep}
+use Rattle.eb_parser.proofs.FrontLaws.{fails_front, wrong_front, found_front}
+use Rattle.eb_parser.specs.Fronts.{formula_at}
 use Rattle.eb_parser.proofs.formulas.formula.Goals as goal
 
 pub returns-then-not-fits-clause-cause : goal.returns-then-not-fits-clause-cause
@@ -90,3 +92,32 @@ returns-in-Err-Fault-TooDeep-clause-complete c =
     let bad : read 201 c.least_of.result c.from_on.result.now ≡ Err TooDeep = fails_at c.in-Err-Fault-TooDeep.field-0 TooDeep _ (c.in-Err-Fault-TooDeep.field-0-is ∙ ap stopped.Fault is) c.in-Err-Fault-TooDeep.ensures.exact in
     let e : at c.args.kind c.args.tokens.now c.args.from ≡ Err TooDeep = same_read _ _ _ _ _ c.least_of.ensures ts bad in
     λ end a h l i o. absurd (o ((deep_means c.args.kind c.args.tokens.now c.args.from e).1 end a h l i))
+
+pub returns-then-not-fits-clause-exact : goal.returns-then-not-fits-clause-exact
+returns-then-not-fits-clause-exact c =
+    let ts : c.from_on.result.now ≡ drop c.args.from c.args.tokens.now = c.from_on.ensures ∙ ap (drop c.args.from) c.as_slice-tokens.ensures in
+    let e : at c.args.kind c.args.tokens.now c.args.from ≡ Ok (c.in-Ok.part, c.in-Ok.rest.now) = same_read _ _ _ _ _ c.least_of.ensures ts c.in-Ok.ensures.exact in
+    let n : fits c.args.kind c.in-Ok.part.level ≡ false = search rules in
+    wrong_front c.args.kind c.args.tokens.now c.in-Ok.rest.now c.args.from c.in-Ok.part e n
+
+pub returns-else-not-fits-clause-exact : goal.returns-else-not-fits-clause-exact
+returns-else-not-fits-clause-exact c =
+    let ts : c.from_on.result.now ≡ drop c.args.from c.args.tokens.now = c.from_on.ensures ∙ ap (drop c.args.from) c.as_slice-tokens.ensures in
+    let e : at c.args.kind c.args.tokens.now c.args.from ≡ Ok (c.in-Ok.part, c.in-Ok.rest.now) = same_read _ _ _ _ _ c.least_of.ensures ts c.in-Ok.ensures.exact in
+    let n : fits c.args.kind c.in-Ok.part.level ≡ true = search rules in
+    let end : c.count_before.result ≡ length c.args.tokens.now - length c.in-Ok.rest.now = c.count_before.ensures ∙ ap (λ z. length z - length c.in-Ok.rest.now) c.as_slice-tokens.ensures in
+    rw end (found_front c.args.kind c.args.tokens.now c.in-Ok.rest.now c.args.from c.in-Ok.part e n)
+
+pub returns-in-Err-Fault-Syntax-clause-exact : goal.returns-in-Err-Fault-Syntax-clause-exact
+returns-in-Err-Fault-Syntax-clause-exact c =
+    let ts : c.from_on.result.now ≡ drop c.args.from c.args.tokens.now = c.from_on.ensures ∙ ap (drop c.args.from) c.as_slice-tokens.ensures in
+    let is : c.in-Err-Fault-Syntax.field-0-0 ≡ Syntax = search rules in
+    let bad : read 201 c.least_of.result c.from_on.result.now ≡ Err Syntax = fails_at c.in-Err-Fault-Syntax.field-0 Syntax _ (c.in-Err-Fault-Syntax.field-0-is ∙ ap stopped.Fault is) c.in-Err-Fault-Syntax.ensures.exact in
+    fails_front c.args.kind c.args.tokens.now c.args.from Syntax (same_read _ _ _ _ _ c.least_of.ensures ts bad)
+
+pub returns-in-Err-Fault-TooDeep-clause-exact : goal.returns-in-Err-Fault-TooDeep-clause-exact
+returns-in-Err-Fault-TooDeep-clause-exact c =
+    let ts : c.from_on.result.now ≡ drop c.args.from c.args.tokens.now = c.from_on.ensures ∙ ap (drop c.args.from) c.as_slice-tokens.ensures in
+    let is : c.in-Err-Fault-TooDeep.field-0-0 ≡ TooDeep = search rules in
+    let bad : read 201 c.least_of.result c.from_on.result.now ≡ Err TooDeep = fails_at c.in-Err-Fault-TooDeep.field-0 TooDeep _ (c.in-Err-Fault-TooDeep.field-0-is ∙ ap stopped.Fault is) c.in-Err-Fault-TooDeep.ensures.exact in
+    fails_front c.args.kind c.args.tokens.now c.args.from TooDeep (same_read _ _ _ _ _ c.least_of.ensures ts bad)

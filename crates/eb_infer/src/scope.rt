@@ -1,0 +1,83 @@
+//! The declared identifiers of a model.
+ghost use Rattle.std.specs.Prelude.{◌≡◌, IfOk, OnOk, if◌then◌else◌};
+ghost use Rattle.eb_infer.specs.Numbering as spec;
+ghost use Rattle.std.specs.Prelude.{ℕ, List};
+ghost use Rattle.indexmap.specs.IndexMap.{get_by_text};
+
+use crate::names::Entry;
+use eb_value::Name;
+use indexmap::IndexMap;
+use sqlite_items::Items;
+use std::alloc::{AllocError, Global};
+use std::marker::Model;
+
+/// The declared identifiers of a model, and how many numbers it has.
+#[derive(Drop)]
+pub(crate) struct Scope {
+    entries: Items<Entry>,
+    places: IndexMap<String, u32>,
+    asked: u32,
+}
+
+impl Model for Scope {
+    ghost use Rattle.eb_infer.specs.Generating.{Scope};
+    ghost use Rattle.std.specs.Prelude.{ℕ, List, ◌≡◌};
+    ghost use Rattle.indexmap.specs.IndexMap.{get_by_text};
+    ghost use Rattle.eb_infer.specs.Numbering.{oldest};
+
+    ghost Value = { Scope };
+
+    ghost view = { λ s. record { entries = s.entries; asked = s.asked } };
+
+    ghost invariant = { λ s. (q : List ℕ) → get_by_text s.places q ≡ oldest q s.entries };
+}
+
+/// Adds a name that isn't there yet.
+fn add(alloc: Global, places: &mut IndexMap<String, u32>, entry: &Entry) -> Result<(), AllocError>
+    ensures { OnOk result ((q : List ℕ) → get_by_text places.new q ≡ spec.older q (get_by_text places.old q) entry.now) }
+{
+    let name = entry.name.as_str();
+    if places.get(name).is_none() {
+        let key = String::from_str(alloc, name)?;
+        places.insert(key, entry.number)?;
+    }
+    Ok(())
+}
+
+/// The number of the first entry of each name.
+fn places_of(alloc: Global, entries: &[Entry]) -> Result<IndexMap<String, u32>, AllocError>
+    ensures { IfOk result (λ places. (q : List ℕ) → get_by_text places q ≡ spec.oldest q entries.now) }
+{
+    let mut places = IndexMap::new(alloc);
+    for entry in entries {
+        add(alloc, &mut places, entry)?;
+    }
+    Ok(places)
+}
+
+impl Scope {
+    pub(crate) fn new(alloc: Global, entries: Items<Entry>, asked: u32) -> Result<Scope, AllocError>
+        ensures entries { IfOk result (λ scope. scope.entries ≡ entries) }
+        ensures asked { IfOk result (λ scope. scope.asked ≡ asked) }
+    {
+        let places = places_of(alloc, entries.as_slice())?;
+        Ok(Scope {
+            entries,
+            places,
+            asked,
+        })
+    }
+
+    pub(crate) fn asked(&self) -> u32
+        ensures { result ≡ self.now.asked }
+    {
+        self.asked
+    }
+
+    /// The number of the first declared identifier of this name.
+    pub(crate) fn number_of(&self, name: &Name) -> Option<u32>
+        ensures { result ≡ spec.oldest name.now self.now.entries }
+    {
+        self.places.get(name.as_str()).copied()
+    }
+}

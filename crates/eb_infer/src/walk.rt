@@ -1,0 +1,327 @@
+//! The equations of formulas, part by part.
+ghost use Rattle.std.specs.Prelude.{◌≡◌, IfOk, OnOk, map};
+ghost use Rattle.eb_infer.specs.Generating as spec;
+ghost use Rattle.eb_infer.specs.Numbering as numbers;
+
+use crate::generated::{Found, Generated};
+use crate::names::Names;
+use crate::pattern::{Letter, Pattern, UnaryRow};
+use crate::rows::{
+    builder_row, call_row, comprehension_row, constant_pattern, gathering_row, inverse_row,
+    is_mark, lambda_row, operator_row, prefix_row, quantifier_row,
+};
+use crate::scope::Scope;
+use crate::tuple::{check, tuple};
+use eb_term::{Ast, Binder, Bound, Constant, Node};
+use eb_value::Name;
+use sqlite_items::Items;
+use std::alloc::{AllocError, Global};
+
+/// The number is one of the typing.
+pub(crate) fn typed(scope: &Scope, number: u32, out: &mut Generated) -> Result<Found, AllocError>
+    ensures found { IfOk result (λ found. found ≡ (spec.gen scope.now.asked (numbers.typed number) out.old).0) }
+    ensures made { OnOk result (out.new ≡ (spec.gen scope.now.asked (numbers.typed number) out.old).1) }
+{
+    check(scope.asked(), number, out)?;
+    Ok(Found::Expression(number))
+}
+
+pub(crate) fn known(
+    scope: &Scope,
+    number: Option<u32>,
+    out: &mut Generated,
+) -> Result<Found, AllocError>
+    ensures found { IfOk result (λ found. found ≡ (spec.gen scope.now.asked (numbers.known number) out.old).0) }
+    ensures made { OnOk result (out.new ≡ (spec.gen scope.now.asked (numbers.known number) out.old).1) }
+{
+    match number {
+        Some(number) => {
+            let found = typed(scope, number, out)?;
+            Ok(found)
+        }
+        None => {
+            out.contradict(0)?;
+            Ok(Found::Expression(0))
+        }
+    }
+}
+
+/// A name that is declared in the model.
+pub(crate) fn declared_as(
+    scope: &Scope,
+    name: &Name,
+    out: &mut Generated,
+) -> Result<Found, AllocError>
+    ensures found { IfOk result (λ found. found ≡ (spec.gen scope.now.asked (numbers.declared_as scope.now.entries name.now) out.old).0) }
+    ensures made { OnOk result (out.new ≡ (spec.gen scope.now.asked (numbers.declared_as scope.now.entries name.now) out.old).1) }
+{
+    let found = known(scope, scope.number_of(name), out)?;
+    Ok(found)
+}
+
+/// A name where it is used without a `'`.
+fn used_as(
+    alloc: Global,
+    scope: &Scope,
+    name: &Name,
+    names: &mut Names,
+    out: &mut Generated,
+) -> Result<Found, AllocError>
+    ensures found { IfOk result (λ found. found ≡ (spec.gen scope.now.asked (numbers.used_as scope.now.entries name.now names.old).0 out.old).0) }
+    ensures made { OnOk result (out.new ≡ (spec.gen scope.now.asked (numbers.used_as scope.now.entries name.now names.old).0 out.old).1) }
+    ensures names { OnOk result (names.new ≡ (numbers.used_as scope.now.entries name.now names.old).1) }
+{
+    let inner = names.used_as(alloc, name)?;
+    let number = inner.or(scope.number_of(name));
+    let found = known(scope, number, out)?;
+    Ok(found)
+}
+
+fn marked(
+    scope: &Scope,
+    pattern: Pattern,
+    names: &mut Names,
+    out: &mut Generated,
+) -> Result<Found, AllocError>
+    ensures found { IfOk result (λ found. found ≡ (spec.gen scope.now.asked (numbers.marked pattern names.old).0 out.old).0) }
+    ensures made { OnOk result (out.new ≡ (spec.gen scope.now.asked (numbers.marked pattern names.old).0 out.old).1) }
+    ensures names { OnOk result (names.new ≡ (numbers.marked pattern names.old).1) }
+{
+    let number = names.mark()?;
+    let part = typed(scope, number, out)?;
+    let row = UnaryRow {
+        part: pattern,
+        whole: pattern,
+    };
+    let found = out.unary(row, part)?;
+    Ok(found)
+}
+
+fn constant(
+    scope: &Scope,
+    constant: Constant,
+    names: &mut Names,
+    out: &mut Generated,
+) -> Result<Found, AllocError>
+    ensures found { IfOk result (λ found. found ≡ (spec.gen scope.now.asked (numbers.constant constant names.old).0 out.old).0) }
+    ensures made { OnOk result (out.new ≡ (spec.gen scope.now.asked (numbers.constant constant names.old).0 out.old).1) }
+    ensures names { OnOk result (names.new ≡ (numbers.constant constant names.old).1) }
+{
+    let pattern = constant_pattern(constant);
+    if is_mark(constant) {
+        let found = marked(scope, pattern, names, out)?;
+        Ok(found)
+    } else {
+        let found = out.leaf(pattern)?;
+        Ok(found)
+    }
+}
+
+/// Binds what a `%` binds, and makes the equations of its pattern.
+fn bind_pattern(
+    alloc: Global,
+    scope: &Scope,
+    bound: &Bound,
+    names: &mut Names,
+    out: &mut Generated,
+) -> Result<Found, AllocError>
+    ensures found { IfOk result (λ found. found ≡ (spec.gen scope.now.asked (numbers.tuple_of bound.now names.old.next) out.old).0) }
+    ensures made { OnOk result (out.new ≡ (spec.gen scope.now.asked (numbers.tuple_of bound.now names.old.next) out.old).1) }
+    ensures names { OnOk result (names.new ≡ numbers.bind_bound names.old bound.now) }
+{
+    let first = names.next();
+    names.bind_bound(alloc, bound)?;
+    match bound {
+        Bound::Pattern(tokens) => {
+            let found = tuple(alloc, scope.asked(), tokens.as_slice(), first, out)?;
+            Ok(found)
+        }
+        Bound::Identifiers(_) => {
+            let found = known(scope, None, out)?;
+            Ok(found)
+        }
+    }
+}
+
+/// The equations of the formula, and what it is.
+#[cycle(walking)]
+pub(crate) fn walk(
+    alloc: Global,
+    scope: &Scope,
+    ast: &Ast,
+    names: &mut Names,
+    out: &mut Generated,
+) -> Result<Found, AllocError>
+    ensures found { IfOk result (λ found. found ≡ (spec.gen scope.now.asked (numbers.numbered scope.now.entries ast.now names.old).0 out.old).0) }
+    ensures made { OnOk result (out.new ≡ (spec.gen scope.now.asked (numbers.numbered scope.now.entries ast.now names.old).0 out.old).1) }
+    ensures names { OnOk result (names.new ≡ (numbers.numbered scope.now.entries ast.now names.old).1) }
+{
+    match &ast.node {
+        Node::Number(_) => {
+            let found = out.leaf(Pattern::Integer)?;
+            Ok(found)
+        }
+        Node::Identifier(name) => {
+            let found = used_as(alloc, scope, name, names, out)?;
+            Ok(found)
+        }
+        Node::Primed(name) => {
+            let found = declared_as(scope, name, out)?;
+            Ok(found)
+        }
+        Node::Constant(found) => {
+            let found = constant(scope, *found, names, out)?;
+            Ok(found)
+        }
+        Node::Prefix(prefix, part) => {
+            let part = walk(alloc, scope, part.get(), names, out)?;
+            let found = out.unary(prefix_row(*prefix), part)?;
+            Ok(found)
+        }
+        Node::Call(call, part) => {
+            let part = walk(alloc, scope, part.get(), names, out)?;
+            let found = out.unary(call_row(*call), part)?;
+            Ok(found)
+        }
+        Node::Parentheses(part) => {
+            let found = walk(alloc, scope, part.get(), names, out)?;
+            Ok(found)
+        }
+        Node::Inverse(part) => {
+            let part = walk(alloc, scope, part.get(), names, out)?;
+            let found = out.unary(inverse_row(), part)?;
+            Ok(found)
+        }
+        Node::Operator(operator, left, right) => {
+            let left = walk(alloc, scope, left.get(), names, out)?;
+            let right = walk(alloc, scope, right.get(), names, out)?;
+            let found = out.binary(operator_row(*operator), left, right)?;
+            Ok(found)
+        }
+        Node::Quantifier(_, bound, part) => {
+            let depth = names.depth();
+            names.bind_all(alloc, bound.as_slice())?;
+            let part = walk(alloc, scope, part.get(), names, out)?;
+            names.unbind(depth);
+            let found = out.unary(quantifier_row(), part)?;
+            Ok(found)
+        }
+        Node::Binder(Binder::Lambda, bound, condition, value) => {
+            let depth = names.depth();
+            let pattern = bind_pattern(alloc, scope, bound, names, out)?;
+            let condition = walk(alloc, scope, condition.get(), names, out)?;
+            let value = walk(alloc, scope, value.get(), names, out)?;
+            names.unbind(depth);
+            let found = out.ternary(lambda_row(), pattern, condition, value)?;
+            Ok(found)
+        }
+        Node::Binder(Binder::Union | Binder::Intersection, bound, condition, value) => {
+            let depth = names.depth();
+            names.bind_bound(alloc, bound)?;
+            let condition = walk(alloc, scope, condition.get(), names, out)?;
+            let value = walk(alloc, scope, value.get(), names, out)?;
+            names.unbind(depth);
+            let found = out.binary(gathering_row(), condition, value)?;
+            Ok(found)
+        }
+        Node::Comprehension(bound, condition, value) => {
+            let depth = names.depth();
+            names.bind_all(alloc, bound.as_slice())?;
+            let condition = walk(alloc, scope, condition.get(), names, out)?;
+            let value = walk(alloc, scope, value.get(), names, out)?;
+            names.unbind(depth);
+            let found = out.binary(comprehension_row(), condition, value)?;
+            Ok(found)
+        }
+        Node::Builder(value, condition) => {
+            let depth = names.depth();
+            let mut inner = names.entered(alloc);
+            let value = walk(alloc, scope, value.get(), &mut inner, out)?;
+            names.leave(inner)?;
+            let condition = walk(alloc, scope, condition.get(), names, out)?;
+            names.unbind(depth);
+            let found = out.binary(builder_row(), value, condition)?;
+            Ok(found)
+        }
+        Node::Extension(members) => {
+            let found = extension(alloc, scope, members.as_slice(), names, out)?;
+            Ok(found)
+        }
+        Node::Partition(members) => {
+            let members = members.as_slice();
+            let part = Pattern::Set(Letter::A);
+            let found = all(alloc, scope, part, Pattern::Predicate, members, names, out)?;
+            Ok(found)
+        }
+    }
+}
+
+/// What each of the formulas is, in order.
+#[cycle(walking)]
+fn each(
+    alloc: Global,
+    scope: &Scope,
+    members: &[Ast],
+    names: &mut Names,
+    out: &mut Generated,
+) -> Result<Items<Found>, AllocError>
+    ensures found { IfOk result (λ found. found ≡ (spec.gens scope.now.asked (numbers.each (map (numbers.numbered scope.now.entries) members.now) names.old).0 out.old).0) }
+    ensures made { OnOk result (out.new ≡ (spec.gens scope.now.asked (numbers.each (map (numbers.numbered scope.now.entries) members.now) names.old).0 out.old).1) }
+    ensures names { OnOk result (names.new ≡ (numbers.each (map (numbers.numbered scope.now.entries) members.now) names.old).1) }
+{
+    let mut parts = Items::new(alloc);
+    for member in members {
+        let part = walk(alloc, scope, member, names, out)?;
+        parts.push(part)?;
+    }
+    Ok(parts)
+}
+
+/// The members between braces.
+#[cycle(walking)]
+fn extension(
+    alloc: Global,
+    scope: &Scope,
+    members: &[Ast],
+    names: &mut Names,
+    out: &mut Generated,
+) -> Result<Found, AllocError>
+    ensures found { IfOk result (λ found. found ≡ (spec.gen scope.now.asked (numbers.extension (map (numbers.numbered scope.now.entries) members.now) names.old).0 out.old).0) }
+    ensures made { OnOk result (out.new ≡ (spec.gen scope.now.asked (numbers.extension (map (numbers.numbered scope.now.entries) members.now) names.old).0 out.old).1) }
+    ensures names { OnOk result (names.new ≡ (numbers.extension (map (numbers.numbered scope.now.entries) members.now) names.old).1) }
+{
+    if members.is_empty() {
+        let found = marked(scope, Pattern::Set(Letter::A), names, out)?;
+        return Ok(found);
+    }
+    let found = all(
+        alloc,
+        scope,
+        Pattern::Type(Letter::A),
+        Pattern::Set(Letter::A),
+        members,
+        names,
+        out,
+    )?;
+    Ok(found)
+}
+
+/// The formulas, each as one pattern says, and what is made of them.
+#[cycle(walking)]
+fn all(
+    alloc: Global,
+    scope: &Scope,
+    part: Pattern,
+    whole: Pattern,
+    members: &[Ast],
+    names: &mut Names,
+    out: &mut Generated,
+) -> Result<Found, AllocError>
+    ensures found { IfOk result (λ found. found ≡ (spec.gen scope.now.asked (numbers.all part whole (map (numbers.numbered scope.now.entries) members.now) names.old).0 out.old).0) }
+    ensures made { OnOk result (out.new ≡ (spec.gen scope.now.asked (numbers.all part whole (map (numbers.numbered scope.now.entries) members.now) names.old).0 out.old).1) }
+    ensures names { OnOk result (names.new ≡ (numbers.all part whole (map (numbers.numbered scope.now.entries) members.now) names.old).1) }
+{
+    let parts = each(alloc, scope, members, names, out)?;
+    let found = out.all(part, whole, parts.as_slice())?;
+    Ok(found)
+}

@@ -1,0 +1,47 @@
+-- Laws of what is told of used names.
+use Rattle.std.proofs.Common.{◌≡◌, ◌∙◌, ◌∷◌, [], ◌||◌, ◌⊎◌, ℕ, Bool, true, false, List, Option, None, Some, Contains, refl, sym, subst, inl, inr, ⊎_elim, bytes_eq, arith, zero, suc, length, get_or, ◌<◌}
+use Rattle.std.proofs.lemmas.Slice.Eq.{bytes_eq-Decides}
+use Rattle.std.proofs.lemmas.List.Elements.{Contains-append_right}
+use Rattle.eb_term.specs.declared.units.EbUnit.{EbUnit}
+use Rattle.eb_term.specs.declared.units.Machine.{Machine}
+use Rattle.eb_scoping.specs.FreeNames.{is_among}
+use Rattle.eb_scoping.specs.Models.{machine_of}
+use Rattle.eb_lower.specs.Usages.{IsVariable}
+use Rattle.eb_lower.specs.Facts.{all_variables, machine_variables}
+use Rattle.eb_lower.specs.Known.{Tells}
+use Rattle.eb_lower.proofs.KeyLaws.{or_cases, or_left, or_right}
+
+contains_cases : {A : Type 0} (x : A) (xs : List A) (v : A) → Contains (x ∷ xs) v → (x ≡ v) ⊎ Contains xs v
+contains_cases x xs v h = at h.0 h.1 h.2
+  where
+    at : (k : ℕ) → k < length (x ∷ xs) → get_or (x ∷ xs) k v ≡ v → (x ≡ v) ⊎ Contains xs v
+    at zero l e = inl e
+    at (suc k) l e = inr (k, omega (arith, l), e)
+
+pub among_contains : (xs : List (List ℕ)) (q : List ℕ) → is_among xs q ≡ true → Contains xs q
+among_contains [] q h = absurd cc
+among_contains (x ∷ xs) q h = ⊎_elim
+    (λ e. subst (λ z. Contains (x ∷ xs) z) ((bytes_eq-Decides x q).0 e) (0, omega arith, refl))
+    (λ o. Contains-append_right (x ∷ []) xs q (among_contains xs q o))
+    (or_cases (bytes_eq x q) (is_among xs q) h)
+
+pub contains_among : (xs : List (List ℕ)) (q : List ℕ) → Contains xs q → is_among xs q ≡ true
+contains_among [] q h = absurd (omega (arith, h.1))
+contains_among (x ∷ xs) q h = ⊎_elim
+    (λ e. or_left (bytes_eq x q) (is_among xs q) ((bytes_eq-Decides x q).1 e))
+    (λ o. or_right (bytes_eq x q) (is_among xs q) (contains_among xs q o))
+    (contains_cases x xs q h)
+
+or_none : (b : Bool) → (b || false) ≡ b
+or_none true = refl
+or_none false = refl
+
+variable_of : (us : List EbUnit) (name : List ℕ) (o : Option Machine) → machine_of us ≡ o → Contains (machine_variables o) name → IsVariable us name
+variable_of us name None e h = absurd (omega (arith, h.1))
+variable_of us name (Some m) e h = (m, e, h)
+
+pub tells_variable : (us : List EbUnit) (b : Bool) (name : List ℕ) → b ≡ (is_among (all_variables us) name || false) → Tells b (IsVariable us name)
+tells_variable us b name e = let f = e ∙ or_none (is_among (all_variables us) name) in (
+  λ t. variable_of us name (machine_of us) refl (among_contains (all_variables us) name (sym f ∙ t)),
+  λ v. f ∙ contains_among (all_variables us) name (subst (λ z. Contains (machine_variables z) name) (sym v.1) v.2),
+)

@@ -1,0 +1,14 @@
+mod PlaceLaws
+mod FormulaLaws
+mod KeyLaws
+mod RepeatLaws
+mod UnitLaws
+mod StaticPlaces
+mod FactLaws
+mod AnswerLaws
+mod StaticLaws
+mod KnownLaws
+mod EventLaws
+mod ReachLaws
+mod PlacedLaws
+mod ContextLaws

@@ -1,0 +1,8 @@
+use Rattle.eb_lower.specs.Keys.{has_text}
+use Rattle.eb_lower.specs.Usages.{clause_carriers}
+use Rattle.eb_lower.proofs.FactLaws.{among_more}
+use Rattle.eb_lower.proofs.facts.insert_carriers.Goals as goal
+
+pub loop-clause-preserved : goal.loop-clause-preserved
+loop-clause-preserved c = λ q. among_more clause_carriers c.args.clauses.now c.loop-clause.clause-index c.clause-item.result q (has_text c.insert_clause_carriers.new.set q) (has_text c.loop-clause.set q) (has_text c.args.set.now q)
+    c.loop-clause-test.true c.clause-item.is (c.loop-clause.invariant q) (c.in_ok-insert_clause_carriers.ensures q)

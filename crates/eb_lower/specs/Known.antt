@@ -1,0 +1,49 @@
+-- What is told of used names. Means of proof; no public clause names this.
+use Rattle.std.specs.Prelude.{◌≡◌, ◌⊎◌, ℕ, Bool, true, List, Option, None, Some, ⊤}
+use Rattle.std.specs.List.{AllByRecursion}
+use Rattle.std.specs.declared.result.Result.{Result}
+use Rattle.std.specs.declared.result.Result.TheVariants.{Ok, Err}
+use Rattle.eb_term.specs.declared.units.EbUnit.{EbUnit}
+use Rattle.eb_scoping.specs.Models.{AreMarked, machine_of, Reaches}
+use Rattle.eb_scoping.specs.Walks.{AreExtendedMarked}
+use Rattle.eb_lower.specs.declared.facts.Facts.{Facts}
+use Rattle.eb_lower.specs.declared.known.Reach.{Reach}
+use Rattle.eb_lower.specs.declared.fault.NameFault.{NameFault}
+use Rattle.eb_lower.specs.declared.fault.NameFault.TheVariants as fault
+use Rattle.eb_lower.specs.Usages.{Usage, Position, at_context, at_size, in_axiom, in_invariant, in_event, at_assigned, at_changed, IsKnown, use_text}
+use Rattle.eb_lower.specs.Facts.{AreFacts}
+
+abbrev pub Tells : Bool → Type 0 → Type 0
+Tells b P = (b ≡ true → P) × (P → b ≡ true)
+
+-- the facts are those of a text whose units have these marks
+abbrev pub Text : List EbUnit → List Bool → Facts → Type 0
+Text us marks f = AreMarked us us marks × AreFacts us marks f
+
+abbrev pub ReachIs : List EbUnit → Option Reach → Type 0
+ReachIs us None = ⊤
+ReachIs us (Some r) = AreExtendedMarked us r.context.now r.marks.items
+
+-- the model has the contexts of this name
+abbrev pub IsOfModel : List EbUnit → List ℕ → Type 0
+IsOfModel us name = (machine_of us ≡ None) ⊎ Reaches us name
+
+-- an axiom at this position is one of a context of the model
+abbrev pub IsPlaced : List EbUnit → Position → Type 0
+IsPlaced us at_context = ⊤
+IsPlaced us at_size = ⊤
+IsPlaced us (in_axiom c) = IsOfModel us c.name.name
+IsPlaced us in_invariant = ⊤
+IsPlaced us (in_event e after) = ⊤
+IsPlaced us at_assigned = ⊤
+IsPlaced us (at_changed e) = ⊤
+
+abbrev pub ArePlaced : List EbUnit → List Usage → Type 0
+ArePlaced us found = AllByRecursion (λ u. IsPlaced us u.position) found
+
+abbrev pub JudgesUsage : List EbUnit → List Bool → Usage → Result (Unit {0}) NameFault → Type 0
+JudgesUsage us marks u (Ok x) = IsKnown us marks u
+JudgesUsage us marks u (Err (fault.Unsupported place)) = ⊥
+JudgesUsage us marks u (Err (fault.DuplicateName name)) = ⊥
+JudgesUsage us marks u (Err (fault.UnknownName name)) = (IsKnown us marks u → ⊥) × (use_text u.use_of ≡ name)
+JudgesUsage us marks u (Err fault.Memory) = ⊤

@@ -1,0 +1,10 @@
+pub mod Unsupported
+pub mod Declarations
+pub mod Seen
+pub mod Keys
+pub mod Usages
+pub mod Positions
+pub mod Facts
+pub mod Known
+pub mod Answers
+pub mod Names

@@ -1,0 +1,22 @@
+-- Which texts have names that make up a model, and which fault the others have.
+use Rattle.std.specs.Prelude.{ℕ, ◌≡◌, ⊤, Bool, List, [], ◌∷◌}
+use Rattle.std.specs.List.{AllByRecursion}
+use Rattle.eb_term.specs.declared.units.EbUnit.{EbUnit}
+use Rattle.eb_scoping.specs.Models.{AreMarked}
+use Rattle.eb_lower.specs.declared.fault.NameFault.{NameFault}
+use Rattle.eb_lower.specs.declared.fault.NameFault.TheVariants as fault
+use Rattle.eb_lower.specs.Unsupported.{unsupported}
+use Rattle.eb_lower.specs.Declarations.{declarations, AreDistinct, RepeatsFirst}
+use Rattle.eb_lower.specs.Usages.{usages, IsKnown}
+use Rattle.eb_lower.specs.Answers.{IsFirstUnknown}
+
+-- nothing is unsupported, no declaration repeats an earlier one, and every used name is known
+abbrev pub AreNamed : List EbUnit → Type 0
+AreNamed us = (marks : List Bool) × AreMarked us us marks × (unsupported us ≡ []) × AreDistinct (declarations us marks) × AllByRecursion (IsKnown us marks) (usages us marks)
+
+-- what isn't supported comes before names that repeat, and these before unknown ones
+abbrev pub IsFaultOf : List EbUnit → NameFault → Type 0
+IsFaultOf us (fault.Unsupported place) = (rest : List ℕ) × (unsupported us ≡ place ∷ rest)
+IsFaultOf us (fault.DuplicateName name) = (marks : List Bool) × AreMarked us us marks × (unsupported us ≡ []) × RepeatsFirst (declarations us marks) name
+IsFaultOf us (fault.UnknownName name) = (marks : List Bool) × AreMarked us us marks × (unsupported us ≡ []) × AreDistinct (declarations us marks) × IsFirstUnknown us marks (usages us marks) name
+IsFaultOf us fault.Memory = ⊤

@@ -1,0 +1,277 @@
+//! Whether a declaration repeats an earlier one.
+ghost use Rattle.std.specs.Prelude.{[], ◌∷◌, ◌≡◌, ◌++◌, ℕ, List, IfOk, OnOk, map, bytes_eq, ◌||◌, ◌&&◌, codes, option_map};
+ghost use Rattle.std.specs.List.{flat_map};
+ghost use Rattle.eb_scoping.specs.FreeNames.{names_of, mark_names};
+ghost use Rattle.eb_lower.specs.Declarations as spec;
+ghost use Rattle.eb_lower.specs.Seen as seen;
+ghost use Rattle.eb_lower.specs.Keys.{has, has_text, same_key, owner_of, kind_of, same_parts, is_parameter, is_taken, IsFirstTwice, BindsApart, Keeps, Judged, AreJudged};
+
+use super::declarations::{Declaration, Space};
+use super::fault::NameFault;
+use eb_term::{Identifier, Mark};
+use eb_value::Name;
+use std::alloc::{AllocError, Global};
+use std::collections::HashSet;
+
+/// The kind of a space.
+#[derive(Clone, Copy, Debug, PartialEq, Eq, Hash)]
+pub(crate) enum Kind {
+    Units,
+    Model,
+    Parameters,
+    Events,
+    Axioms,
+    Invariants,
+    Assigned,
+    Words,
+    Sizes,
+}
+
+/// A name in a space, which is given by its kind and the event or context that it belongs to.
+#[derive(Clone, Copy, Debug, PartialEq, Eq, Hash)]
+pub(crate) struct Key<'a> {
+    pub(crate) kind: Kind,
+    pub(crate) owner: &'a str,
+    pub(crate) name: &'a str,
+}
+
+/// What is declared so far.
+#[derive(Drop)]
+pub(crate) struct Known<'a> {
+    pub(crate) keys: HashSet<Key<'a>>,
+    /// The parameters of all events.
+    pub(crate) parameters: HashSet<&'a str>,
+}
+
+fn space_kind(space: Space<'_>) -> Kind
+    ensures { result ≡ kind_of space.entry }
+{
+    match space {
+        Space::Units => Kind::Units,
+        Space::Model => Kind::Model,
+        Space::Parameters(_) => Kind::Parameters,
+        Space::Events => Kind::Events,
+        Space::Axioms(_) => Kind::Axioms,
+        Space::Invariants => Kind::Invariants,
+        Space::Assigned(_) => Kind::Assigned,
+        Space::Words => Kind::Words,
+        Space::Sizes => Kind::Sizes,
+    }
+}
+
+/// The name of the event or context that the space belongs to.
+fn space_owner<'a>(space: Space<'a>) -> &'a str
+    ensures { result.now ≡ owner_of (seen.space space.entry) }
+{
+    match space {
+        Space::Parameters(event) | Space::Assigned(event) => event,
+        Space::Axioms(context) => context,
+        Space::Units
+        | Space::Model
+        | Space::Events
+        | Space::Invariants
+        | Space::Words
+        | Space::Sizes => "",
+    }
+}
+
+fn key_of<'a>(space: Space<'a>, name: &'a str) -> Key<'a>
+    ensures kind { result.kind ≡ kind_of space.entry }
+    ensures owner { result.owner.now ≡ owner_of (seen.space space.entry) }
+    ensures name { result.name.now ≡ name.now }
+{
+    Key {
+        kind: space_kind(space),
+        owner: space_owner(space),
+        name,
+    }
+}
+
+fn has_key(keys: &HashSet<Key<'_>>, key: Key<'_>) -> bool
+    ensures { result ≡ has keys.now key.entry.kind key.entry.owner.now key.entry.name.now }
+{
+    keys.contains(&key)
+}
+
+fn insert_key<'a>(keys: &mut HashSet<Key<'a>>, key: Key<'a>) -> Result<(), AllocError>
+    ensures { OnOk result ((k : Kind) (o n : List ℕ) → has keys.new k o n ≡ (same_key key.entry k o n || has keys.old k o n)) }
+{
+    keys.insert(key)?;
+    Ok(())
+}
+
+pub(crate) fn has_name(names: &HashSet<&str>, name: &str) -> bool
+    ensures { result ≡ has_text names.now name.now }
+{
+    names.contains(name)
+}
+
+pub(crate) fn insert_name<'a>(names: &mut HashSet<&'a str>, name: &'a str) -> Result<(), AllocError>
+    ensures { OnOk result ((q : List ℕ) → has_text names.new q ≡ (bytes_eq name.now q || has_text names.old q)) }
+{
+    names.insert(name)?;
+    Ok(())
+}
+
+/// Whether the name may not be declared in the space.
+fn is_repeated(known: &Known<'_>, space: Space<'_>, name: &str) -> bool
+    ensures { result ≡ is_taken known.now.keys known.now.parameters space.entry name.now }
+{
+    if has_key(&known.keys, key_of(space, name)) {
+        return true;
+    }
+    match space {
+        Space::Parameters(_) => has_key(&known.keys, key_of(Space::Model, name)),
+        Space::Model => has_name(&known.parameters, name),
+        Space::Units
+        | Space::Events
+        | Space::Axioms(_)
+        | Space::Invariants
+        | Space::Assigned(_)
+        | Space::Words
+        | Space::Sizes => false,
+    }
+}
+
+fn note<'a>(known: &mut Known<'a>, space: Space<'a>, name: &'a str) -> Result<(), AllocError>
+    ensures keys { OnOk result ((k : Kind) (o n : List ℕ) → has known.new.keys k o n ≡ (same_parts (kind_of space.entry) (owner_of (seen.space space.entry)) name.now k o n || has known.old.keys k o n)) }
+    ensures parameters { OnOk result ((q : List ℕ) → has_text known.new.parameters q ≡ (is_parameter space.entry && bytes_eq name.now q || has_text known.old.parameters q)) }
+{
+    insert_key(&mut known.keys, key_of(space, name))?;
+    if let Space::Parameters(_) = space {
+        insert_name(&mut known.parameters, name)?;
+    }
+    Ok(())
+}
+
+/// The name as it is printed.
+fn printed(alloc: Global, space: Space<'_>, name: &str) -> Result<Name, AllocError>
+    ensures { IfOk result (λ text. text ≡ spec.printed (seen.space space.entry) name.now) }
+{
+    match space {
+        Space::Axioms(_) | Space::Invariants => label(alloc, name),
+        Space::Units
+        | Space::Model
+        | Space::Parameters(_)
+        | Space::Events
+        | Space::Assigned(_)
+        | Space::Words
+        | Space::Sizes => Name::new(alloc, name),
+    }
+}
+
+fn label(alloc: Global, name: &str) -> Result<Name, AllocError>
+    ensures { IfOk result (λ text. text ≡ codes "@" ++ name.now) }
+{
+    let mut text = String::from_str(alloc, "@")?;
+    text.push_str(name)?;
+    Name::new(alloc, text.as_str())
+}
+
+/// The first name that stands a second time.
+fn first_twice<'a>(alloc: Global, names: &[&'a str]) -> Result<Option<&'a str>, AllocError>
+    ensures { IfOk result (λ found. IsFirstTwice (map (λ x. x.now) names.now) (option_map (λ x. x.now) found)) }
+{
+    let mut front = HashSet::new(alloc);
+    for name in names {
+        if has_name(&front, name) {
+            return Ok(Some(*name));
+        }
+        insert_name(&mut front, name)?;
+    }
+    Ok(None)
+}
+
+fn identifier_names<'a>(alloc: Global, names: &'a [Identifier]) -> Result<Vec<&'a str>, AllocError>
+    ensures { IfOk result (λ found. map (λ x. x.now) found.items ≡ names_of names.now) }
+{
+    let mut found = Vec::new(alloc);
+    for name in names {
+        found.push(name.name.as_str())?;
+    }
+    Ok(found)
+}
+
+fn push_mark<'a>(mark: &'a Mark, found: &mut Vec<&'a str>) -> Result<(), AllocError>
+    ensures { OnOk result (map (λ x. x.now) found.new.items ≡ map (λ x. x.now) found.old.items ++ mark_names mark.now) }
+{
+    if let Mark::Identifier(name) = mark {
+        found.push(name.name.as_str())?;
+    }
+    Ok(())
+}
+
+fn pattern_names<'a>(alloc: Global, pattern: &'a [Mark]) -> Result<Vec<&'a str>, AllocError>
+    ensures { IfOk result (λ found. map (λ x. x.now) found.items ≡ flat_map mark_names pattern.now) }
+{
+    let mut found = Vec::new(alloc);
+    for mark in pattern {
+        push_mark(mark, &mut found)?;
+    }
+    Ok(found)
+}
+
+fn judge_binder(alloc: Global, names: &[&str]) -> Result<(), NameFault>
+    ensures { BindsApart (map (λ x. x.now) names.now) result }
+{
+    match first_twice(alloc, names)? {
+        Some(name) => {
+            let name = Name::new(alloc, name)?;
+            Err(NameFault::DuplicateName(name))
+        }
+        None => Ok(()),
+    }
+}
+
+fn judge_name<'a>(
+    alloc: Global,
+    known: &mut Known<'a>,
+    space: Space<'a>,
+    name: &'a str,
+) -> Result<(), NameFault>
+    ensures { (before : List spec.Declaration) → Keeps known.old.keys known.old.parameters before → Judged before (spec.declared (seen.space space.entry) name.now) known.new.keys known.new.parameters result }
+{
+    if is_repeated(known, space, name) {
+        let name = printed(alloc, space, name)?;
+        return Err(NameFault::DuplicateName(name));
+    }
+    note(known, space, name)?;
+    Ok(())
+}
+
+/// Judges one declaration behind those that are known, and notes it.
+fn judge<'a>(
+    alloc: Global,
+    known: &mut Known<'a>,
+    declaration: Declaration<'a>,
+) -> Result<(), NameFault>
+    ensures { (before : List spec.Declaration) → Keeps known.old.keys known.old.parameters before → Judged before (seen.declaration declaration.entry) known.new.keys known.new.parameters result }
+{
+    match declaration {
+        Declaration::Name(space, name) => judge_name(alloc, known, space, name),
+        Declaration::Identifiers(names) => {
+            let names = identifier_names(alloc, names)?;
+            judge_binder(alloc, &names)
+        }
+        Declaration::Pattern(marks) => {
+            let names = pattern_names(alloc, marks)?;
+            judge_binder(alloc, &names)
+        }
+    }
+}
+
+/// Judges the declarations one after the other.
+pub(crate) fn judge_all(alloc: Global, declarations: &[Declaration<'_>]) -> Result<(), NameFault>
+    ensures { AreJudged (map seen.declaration declarations.now) result }
+{
+    let mut known = Known {
+        keys: HashSet::new(alloc),
+        parameters: HashSet::new(alloc),
+    };
+    for declaration in declarations {
+        if let Err(fault) = judge(alloc, &mut known, *declaration) {
+            return Err(fault);
+        }
+    }
+    Ok(())
+}

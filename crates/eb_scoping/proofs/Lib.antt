@@ -1,0 +1,8 @@
+mod ListLaws
+mod NameLaws
+mod WalkLaws
+mod SpreadLaws
+mod IndexLaws
+mod MarkLaws
+mod UseLaws
+mod FreeLaws

@@ -1,0 +1,4 @@
+pub mod FreeNames
+pub mod Models
+pub mod Walks
+pub mod Groups

@@ -1,0 +1,193 @@
+//! Actions.
+ghost use Rattle.std.specs.Prelude.{◌≡◌, ◌<◌, ◌^◌, length, drop, IfErr, Err, [], ◌∷◌};
+ghost use Rattle.eb_parser.specs.Fronts.{Finds};
+ghost use Rattle.eb_units.specs.Reading.{IsPlaced};
+ghost use Rattle.eb_units.specs.Reading as spec;
+
+use super::front::{
+    at_label, at_sign, fault_at, formula_at, label_at, name_at, next, sign_at, skip,
+};
+use super::lists::{exprs_at, more_names};
+use eb_lexer::{Sign, Tokens};
+use eb_parser::{FormulaKind, ParseFault};
+use eb_term::{Action, Actions, Assignment, Ast, Identifier, Identifiers};
+use sqlite_items::Items;
+use std::alloc::Global;
+
+/// As many expressions as names.
+fn as_many(
+    tokens: &Tokens,
+    names: Identifiers,
+    values: Items<Ast>,
+    at: u32,
+) -> Result<(Assignment, u32), ParseFault>
+    requires { length tokens.now < 2 ^ 32 }
+    ensures exact { Finds tokens.now result (spec.as_many names values (drop at tokens.now)) }
+    ensures placed { IfErr result (IsPlaced tokens.now) }
+{
+    if names.len() == values.len() {
+        Ok((Assignment::BecomesEqual(names, values), at))
+    } else {
+        Err(fault_at(tokens, at))
+    }
+}
+
+#[tactic(auto, unfolding(crate::specs::Reading::equal_at))]
+fn equal_at(
+    alloc: Global,
+    tokens: &Tokens,
+    names: Identifiers,
+    at: u32,
+) -> Result<(Assignment, u32), ParseFault>
+    requires { length tokens.now < 2 ^ 32 }
+    ensures exact { Finds tokens.now result (spec.equal_at 201 (spec.room tokens.now) names (drop at tokens.now)) }
+    ensures placed { IfErr result (IsPlaced tokens.now) }
+{
+    let (values, rest) = exprs_at(alloc, tokens, at)?;
+    as_many(tokens, names, values, rest)
+}
+
+#[tactic(auto, unfolding(crate::specs::Reading::such_at))]
+fn such_at(
+    alloc: Global,
+    tokens: &Tokens,
+    names: Identifiers,
+    at: u32,
+) -> Result<(Assignment, u32), ParseFault>
+    requires { length tokens.now < 2 ^ 32 }
+    ensures exact { Finds tokens.now result (spec.such_at 201 names (drop at tokens.now)) }
+    ensures placed { IfErr result (IsPlaced tokens.now) }
+{
+    let (_, rest) = sign_at(tokens, Sign::BecomesSuchThat, at)?;
+    let (condition, rest) = formula_at(alloc, tokens, FormulaKind::Pred, rest)?;
+    Ok((Assignment::BecomesSuchThat(names, condition), rest))
+}
+
+/// What is behind the names of an assignment.
+#[tactic(auto, unfolding(crate::specs::Reading::assigned_at))]
+fn assigned_at(
+    alloc: Global,
+    tokens: &Tokens,
+    names: Identifiers,
+    at: u32,
+) -> Result<(Assignment, u32), ParseFault>
+    requires { length tokens.now < 2 ^ 32 }
+    ensures exact { Finds tokens.now result (spec.assigned_at 201 (spec.room tokens.now) names (drop at tokens.now)) }
+    ensures placed { IfErr result (IsPlaced tokens.now) }
+{
+    if at_sign(tokens, Sign::Becomes, at) {
+        equal_at(alloc, tokens, names, next(tokens, at))
+    } else {
+        such_at(alloc, tokens, names, at)
+    }
+}
+
+#[tactic(auto, unfolding(crate::specs::Reading::applied_at))]
+fn applied_at(
+    alloc: Global,
+    tokens: &Tokens,
+    name: Identifier,
+    at: u32,
+) -> Result<(Assignment, u32), ParseFault>
+    requires { length tokens.now < 2 ^ 32 }
+    ensures exact { Finds tokens.now result (spec.applied_at 201 name (drop at tokens.now)) }
+    ensures placed { IfErr result (IsPlaced tokens.now) }
+{
+    let (argument, rest) = formula_at(alloc, tokens, FormulaKind::Expr, at)?;
+    let (_, rest) = sign_at(tokens, Sign::RightParenthesis, rest)?;
+    let (_, rest) = sign_at(tokens, Sign::Becomes, rest)?;
+    let (value, rest) = formula_at(alloc, tokens, FormulaKind::Expr, rest)?;
+    Ok((Assignment::BecomesEqualAt(name, argument, value), rest))
+}
+
+#[tactic(auto, unfolding(crate::specs::Reading::member_at))]
+fn member_at(
+    alloc: Global,
+    tokens: &Tokens,
+    name: Identifier,
+    at: u32,
+) -> Result<(Assignment, u32), ParseFault>
+    requires { length tokens.now < 2 ^ 32 }
+    ensures exact { Finds tokens.now result (spec.member_at 201 name (drop at tokens.now)) }
+    ensures placed { IfErr result (IsPlaced tokens.now) }
+{
+    let (set, rest) = formula_at(alloc, tokens, FormulaKind::Expr, at)?;
+    Ok((Assignment::BecomesMember(name, set), rest))
+}
+
+#[tactic(auto, unfolding(crate::specs::Reading::several_at))]
+fn several_at(
+    alloc: Global,
+    tokens: &Tokens,
+    name: Identifier,
+    at: u32,
+) -> Result<(Assignment, u32), ParseFault>
+    requires { length tokens.now < 2 ^ 32 }
+    ensures exact { Finds tokens.now result (spec.several_at 201 (spec.room tokens.now) name (drop at tokens.now)) }
+    ensures placed { IfErr result (IsPlaced tokens.now) }
+{
+    let (names, rest) = more_names(alloc, tokens, name, at)?;
+    assigned_at(alloc, tokens, names, rest)
+}
+
+/// What is behind the first name of an assignment.
+#[tactic(auto, unfolding(crate::specs::Reading::assigns_at))]
+fn assigns_at(
+    alloc: Global,
+    tokens: &Tokens,
+    name: Identifier,
+    at: u32,
+) -> Result<(Assignment, u32), ParseFault>
+    requires { length tokens.now < 2 ^ 32 }
+    ensures exact { Finds tokens.now result (spec.assigns_at 201 (spec.room tokens.now) name (drop at tokens.now)) }
+    ensures placed { IfErr result (IsPlaced tokens.now) }
+{
+    if at_sign(tokens, Sign::LeftParenthesis, at) {
+        applied_at(alloc, tokens, name, next(tokens, at))
+    } else if at_sign(tokens, Sign::BecomesMember, at) {
+        member_at(alloc, tokens, name, next(tokens, at))
+    } else {
+        several_at(alloc, tokens, name, at)
+    }
+}
+
+#[tactic(auto, unfolding(crate::specs::Reading::assignment_at))]
+fn assignment_at(alloc: Global, tokens: &Tokens, at: u32) -> Result<(Assignment, u32), ParseFault>
+    requires { length tokens.now < 2 ^ 32 }
+    ensures exact { Finds tokens.now result (spec.assignment_at 201 (spec.room tokens.now) (drop at tokens.now)) }
+    ensures placed { IfErr result (IsPlaced tokens.now) }
+{
+    let (name, rest) = name_at(alloc, tokens, at)?;
+    assigns_at(alloc, tokens, name, rest)
+}
+
+/// The action here.
+#[tactic(auto, unfolding(crate::specs::Reading::action_at))]
+fn action_at(alloc: Global, tokens: &Tokens, at: u32) -> Result<(Action, u32), ParseFault>
+    requires { length tokens.now < 2 ^ 32 }
+    ensures exact { Finds tokens.now result (spec.action_at 201 (spec.room tokens.now) (drop at tokens.now)) }
+    ensures placed { IfErr result (IsPlaced tokens.now) }
+{
+    let (label, rest) = label_at(alloc, tokens, at)?;
+    let (assignment, rest) = assignment_at(alloc, tokens, skip(tokens, Sign::MemberOf, rest))?;
+    Ok((Action { label, assignment }, rest))
+}
+
+/// The actions from here on.
+pub fn all_actions(alloc: Global, tokens: &Tokens, at: u32) -> Result<(Actions, u32), ParseFault>
+    requires { length tokens.now < 2 ^ 32 }
+    ensures exact { Finds tokens.now result (spec.many spec.at_label (spec.action_at 201 (spec.room tokens.now)) (spec.room tokens.now) (drop at tokens.now)) }
+    ensures placed { IfErr result (IsPlaced tokens.now) }
+{
+    let mut read = Actions::new(alloc);
+    let mut rest = at;
+    for _ in 0..tokens.len() + 1 {
+        if !at_label(tokens, rest) {
+            return Ok((read, rest));
+        }
+        let (one, after) = action_at(alloc, tokens, rest)?;
+        read.push(one)?;
+        rest = after;
+    }
+    Err(fault_at(tokens, rest))
+}

@@ -1,0 +1,11 @@
+pub mod Faulting
+pub mod TypeLaws
+pub mod EquationLaws
+pub mod StoreLaws
+pub mod MergeLaws
+pub mod MergeSteps
+pub mod UnifyLaws
+pub mod MarkLaws
+pub mod WrittenLaws
+pub mod SettleLaws
+pub mod SolutionLaws

@@ -1,0 +1,5 @@
+use Rattle.type_equations.specs.Settling.{AreFixed}
+use Rattle.type_equations.proofs.settling.loose.Given as goal
+
+abbrev pub invariant-loop-number : goal.invariant-loop-number
+invariant-loop-number l = AreFixed l.number l.marks
