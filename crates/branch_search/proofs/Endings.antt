@@ -15,7 +15,7 @@ use Rattle.tree_checker.specs.Verdicts.{LeadsTo}
 use Rattle.branch_search.specs.declared.depth_first.Answer.{Answer}
 use Rattle.branch_search.specs.declared.depth_first.Answer.TheVariants as answer
 use Rattle.branch_search.specs.Search.{Answers}
-use Rattle.branch_search.specs.Going.{IsWithin, Ends}
+use Rattle.branch_search.specs.steps.Going.{IsWithin, Ends}
 
 some_factors : (a b : ℕ) → 0 < a * b → (0 < a) × (0 < b)
 some_factors zero b h = absurd (omega arith)

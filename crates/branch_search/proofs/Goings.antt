@@ -16,7 +16,7 @@ use Rattle.tree_form.specs.declared.line.Line.{Line}
 use Rattle.tree_form.specs.declared.line.Line.TheVariants as line
 use Rattle.tree_checker.specs.Trees.{Fits, parts_of, is_open, is_split, opens, splits_of, OpensAreLoose}
 use Rattle.tree_checker.specs.Verdicts.{LeadsTo}
-use Rattle.branch_search.specs.Going.{IsWithin, IsGoing}
+use Rattle.branch_search.specs.steps.Going.{IsWithin, IsGoing}
 
 -- ---- a line more
 

@@ -5,7 +5,7 @@ ghost use Rattle.int_dom.specs.Intervals.{is_single};
 ghost use Rattle.occ_store.specs.Places.{has_at};
 ghost use Rattle.occ_store.specs.Stores.{HaveIntegers};
 ghost use Rattle.branch_search.specs.Search as spec;
-ghost use Rattle.branch_search.specs.Going as going;
+ghost use Rattle.branch_search.specs.steps.Going as going;
 
 use eb_meaning::{slots_of, truth_in};
 use eb_term::{Problem, Term};
@@ -57,7 +57,7 @@ pub fn search(
     requires scope { scope.now.lo ≤ℤ scope.now.hi }
     ensures { IfOk result (spec.Answers scope.now problem.now budget) }
 {
-    first_stores_have_the_valuations(problem.choices.as_slice(), scope);
+    first_stores_have_the_valuations();
     splits_are_fewer_than_valuations(scope, problem);
     closing_lines_are_trees();
     let first = Store::first(alloc, problem.choices.as_slice(), scope)?;

@@ -6,6 +6,3 @@
 mod depth_first;
 
 pub use depth_first::{Answer, search};
-
-#[cfg(test)]
-mod tests;

@@ -1,9 +1,10 @@
 -- What contracts see of the adapters.
 use Rattle.std.specs.Prelude.{ℕ, List, Option}
 
--- the system's files: the open one's name, the bytes that its reader says are left, how many calls
+-- the system's files: the names that were given to `open`, the open one's name, the bytes that its reader says are left, how many calls
 -- failed, and the file of the last that did
 pub record FilesState : Type 0 where
+  pub opened : List (List ℕ)
   pub open_name : Option (List ℕ)
   pub rest : Option (List ℕ)
   pub faults : ℕ

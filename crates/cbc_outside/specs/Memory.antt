@@ -1,5 +1,5 @@
 -- The source and the sink in memory: what each call answers, and what it leaves.
-use Rattle.std.specs.Prelude.{ℕ, ◌-◌, ◌==◌, ◌||◌, List, [], ◌++◌, Option, Some, None, Result, Ok, Err, Bool, is_some, is_none, length, take, drop, min, if◌then◌else◌, slice_get, unwrap_or, option_map}
+use Rattle.std.specs.Prelude.{ℕ, ◌-◌, ◌==◌, ◌||◌, List, [], ◌∷◌, ◌++◌, Option, Some, None, Result, Ok, Err, Bool, is_some, is_none, length, take, drop, min, if◌then◌else◌, slice_get, unwrap_or, option_map}
 use Rattle.std.specs.List.{list_any}
 use Rattle.cbc_outside.specs.declared.outside.Failed.{Failed}
 use Rattle.cbc_outside.specs.Outside.{Files, lookup, count_up}
@@ -9,11 +9,13 @@ abbrev pub failed : Failed
 failed = record {}
 
 -- a source in memory: its files, the numbers of the calls that fail, how many calls were counted,
--- the open file's name, what is left of it, how many calls failed, and the file of the last that did
+-- the names that were given to `open`, the open file's name, what is left of it, how many calls failed, and the file
+-- of the last that did
 pub record SourceState : Type 0 where
   pub files : Files
   pub failing : List ℕ
   pub calls : ℕ
+  pub opened : List (List ℕ)
   pub open_name : Option (List ℕ)
   pub rest : List ℕ
   pub faults : ℕ
@@ -57,7 +59,7 @@ after_finding s name (Some bytes) = record s { calls = count_up s.calls; open_na
 
 -- after `open` of a name, by the bytes that the call finds
 abbrev pub after_open : SourceState → List ℕ → SourceState
-after_open s name = after_finding s name (found_bytes s name)
+after_open s name = after_finding (record s { opened = s.opened ++ name ∷ [] }) name (found_bytes s name)
 
 -- `read` gives nothing without an open file, fails at a listed call, and else gives what is left, as
 -- far as it fits

@@ -41,11 +41,6 @@ abbrev pub IsWhole : Option Files → List ℕ → List ℕ → Type 0
 IsWhole None name bytes = ⊤
 IsWhole (Some files) name bytes = lookup files name ≡ Some bytes
 
--- the file with this name has more bytes than the limit; where the files are told
-abbrev pub IsLonger : Option Files → List ℕ → ℕ → Type 0
-IsLonger None name limit = ⊤
-IsLonger (Some files) name limit = (bytes : List ℕ) × (lookup files name ≡ Some bytes) × (limit < length bytes)
-
 -- the bytes taken grew by a front of the piece that isn't all of it; where they are told
 abbrev pub AppendsFront : Option (List ℕ) → Option (List ℕ) → List ℕ → Type 0
 AppendsFront old new piece = (n : ℕ) × (n < length piece) × Appends old new (take n piece)

@@ -1,8 +1,9 @@
-ghost use Rattle.std.specs.Prelude.{◌≡◌, ◌≤◌, None, Some};
+ghost use Rattle.std.specs.Prelude.{◌≡◌, ◌≤◌, [], None, Some, option_map};
 ghost use Rattle.cbc_outside.specs.Outside.{count_up};
 
+use crate::opened_names::OpenedNames;
 use crate::outside::{Failed, Sink, Source};
-use eb_value::Name;
+use eb_names::Name;
 use std::fs;
 use std::io::{Read, Write};
 use std::marker::Model;
@@ -13,7 +14,8 @@ use std::rt::Files;
 #[derive(Drop)]
 pub struct FileSource<'a, R: Files> {
     rt: &'a R,
-    opened: Option<(Name, R::File)>,
+    opened: OpenedNames,
+    current: Option<(Name, R::File)>,
     faults: u64,
     fault_name: Option<Name>,
 }
@@ -25,8 +27,9 @@ impl<'a, R: Files> Model for FileSource<'a, R> {
     ghost Value = { FilesState };
 
     ghost view = { λ s. record {
-      open_name = option_map (λ file. file.0) s.opened;
-      rest = option_and_then (λ file. R.File.remaining file.1) s.opened;
+      opened = s.opened.names;
+      open_name = option_map (λ file. file.0) s.current;
+      rest = option_and_then (λ file. R.File.remaining file.1) s.current;
       faults = s.faults;
       fault_name = s.fault_name;
     } };
@@ -35,19 +38,28 @@ impl<'a, R: Files> Model for FileSource<'a, R> {
 impl<'a, R: Files> FileSource<'a, R> {
     /// The files that this runtime reaches. No file is open, and no call has failed.
     pub fn new(rt: &'a R) -> FileSource<'a, R>
-        ensures { result ≡ record { open_name = None; rest = None; faults = 0; fault_name = None } }
+        ensures { result ≡ record { opened = []; open_name = None; rest = None; faults = 0; fault_name = None } }
     {
         FileSource {
             rt,
-            opened: None,
+            opened: OpenedNames::new(),
+            current: None,
             faults: 0,
             fault_name: None,
         }
     }
 
+    /// The name of the file at which a call failed last, none at first.
+    pub fn fault_name(&self) -> Option<&Name>
+        ensures { option_map (λ name. name.now) result ≡ self.now.fault_name }
+    {
+        self.fault_name.as_ref()
+    }
+
     /// Counts a fault at this file, and closes what was open.
     fn fail(&mut self, name: Name) -> Failed
         ensures after { self.new ≡ record {
+          opened = self.old.opened;
           open_name = None;
           rest = None;
           faults = count_up self.old.faults;
@@ -55,7 +67,7 @@ impl<'a, R: Files> FileSource<'a, R> {
         } }
         ensures later { self.old.faults ≤ self.new.faults }
     {
-        self.opened = None;
+        self.current = None;
         self.faults = self.faults.saturating_add(1);
         self.fault_name = Some(name);
         Failed
@@ -64,6 +76,8 @@ impl<'a, R: Files> FileSource<'a, R> {
 
 impl<R: Files> Source for FileSource<'_, R> {
     ghost files = { λ s. None };
+
+    ghost opened = { λ s. s.opened };
 
     ghost open_name = { λ s. s.open_name };
 
@@ -74,9 +88,10 @@ impl<R: Files> Source for FileSource<'_, R> {
     ghost fault_name = { λ s. s.fault_name };
 
     fn open(&mut self, name: Name) -> Result<(), Failed> {
+        self.opened = OpenedNames::with(&self.opened, &name);
         match fs::open(self.rt, name.as_str()) {
             Ok(file) => {
-                self.opened = Some((name, file));
+                self.current = Some((name, file));
                 Ok(())
             }
             Err(_) => Err(self.fail(name)),
@@ -84,12 +99,12 @@ impl<R: Files> Source for FileSource<'_, R> {
     }
 
     fn read(&mut self, into: &mut [u8]) -> Result<usize, Failed> {
-        let Some((name, mut file)) = self.opened.take() else {
+        let Some((name, mut file)) = self.current.take() else {
             return Ok(0);
         };
         match file.read(into) {
             Ok(count) => {
-                self.opened = Some((name, file));
+                self.current = Some((name, file));
                 Ok(count)
             }
             Err(_) => Err(self.fail(name)),

@@ -3,8 +3,8 @@ ghost use Rattle.std.specs.Io.KnownBytes.{Appends, Keeps};
 ghost use Rattle.cbc_outside.specs.Outside.{HasCause};
 ghost use Rattle.cbc_outside.specs.Memory.{answer_of_write, after_write};
 
+use crate::lists::Calls;
 use crate::outside::{Failed, Sink};
-use eb_value::Calls;
 use std::alloc::{AllocError, Global};
 use std::marker::Model;
 

@@ -1,11 +1,13 @@
-ghost use Rattle.std.specs.Prelude.{◌≡◌, ◌+◌, ◌-◌, ◌^◌, ◌<◌, ◌≤◌, [], None, Some, Ok, IfOk, IfNone, IfSome, OnOk, OnErr, min, length, take, drop};
+ghost use Rattle.std.specs.Prelude.{◌≡◌, ◌+◌, ◌-◌, ◌^◌, ◌<◌, ◌≤◌, [], ◌∷◌, ◌++◌, None, Some, Ok, IfOk, IfNone, IfSome, OnOk, OnErr, min, length, take, drop};
 ghost use Rattle.std.specs.Io.{ReadsAtMost};
 ghost use Rattle.std.specs.Io.KnownBytes.{Consumes, IsAtEnd};
 ghost use Rattle.cbc_outside.specs.Outside.{count_up, lookup, Opens, HasCause, Blames};
 ghost use Rattle.cbc_outside.specs.Memory.{bytes_at, answer_of_open, after_open, answer_of_read, after_read};
 
+use crate::lists::{Calls, NamedFiles};
+use crate::opened_names::OpenedNames;
 use crate::outside::{Failed, Source};
-use eb_value::{Bytes, Calls, Name, NamedFiles};
+use eb_names::{Bytes, Name};
 use std::marker::Model;
 
 /// Files in memory, of which listed calls fail. Each `open`, and each `read` while a file is open, is counted,
@@ -15,14 +17,15 @@ pub struct MemSource {
     files: NamedFiles,
     failing: Calls,
     calls: u64,
-    opened: Option<Opened>,
+    opened: OpenedNames,
+    current: Option<OpenFile>,
     faults: u64,
     fault_name: Option<Name>,
 }
 
 /// The open file: its name, its place in the list and how much of it was read.
 #[derive(Drop)]
-struct Opened {
+struct OpenFile {
     name: Name,
     place: usize,
     at: usize,
@@ -33,7 +36,7 @@ impl Model for MemSource {
 
     ghost Value = { SourceState };
 
-    ghost use Rattle.cbc_outside.specs.Opened.{state_of, IsWithin};
+    ghost use Rattle.cbc_outside.specs.steps.OpenFile.{state_of, IsWithin};
 
     ghost view = { state_of };
 
@@ -47,6 +50,7 @@ impl MemSource {
           files = files;
           failing = failing;
           calls = 0;
+          opened = [];
           open_name = None;
           rest = [];
           faults = 0;
@@ -57,7 +61,8 @@ impl MemSource {
             files,
             failing,
             calls: 0,
-            opened: None,
+            opened: OpenedNames::new(),
+            current: None,
             faults: 0,
             fault_name: None,
         }
@@ -72,7 +77,7 @@ impl MemSource {
           fault_name = Some name;
         } }
     {
-        self.opened = None;
+        self.current = None;
         self.faults = self.faults.saturating_add(1);
         self.fault_name = Some(name);
         Failed
@@ -96,6 +101,8 @@ fn place_of(files: &[(Name, Bytes)], name: &str) -> Option<usize>
 impl Source for MemSource {
     ghost files = { λ s. Some s.files };
 
+    ghost opened = { λ s. s.opened };
+
     ghost open_name = { λ s. s.open_name };
 
     ghost rest = { λ s. Some s.rest };
@@ -107,8 +114,9 @@ impl Source for MemSource {
     /// Fails exactly at a listed call and at a name that isn't there.
     fn open(&mut self, name: Name) -> Result<(), Failed>
         ensures same { self.new.files ≡ self.old.files }
+        ensures tried { self.new.opened ≡ self.old.opened ++ name ∷ [] }
         ensures named { OnOk result (self.new.open_name ≡ Some name) }
-        ensures opened { OnOk result (Opens (Some self.old.files) name (Some self.new.rest)) }
+        ensures whole { OnOk result (Opens (Some self.old.files) name (Some self.new.rest)) }
         ensures closes { OnErr result (self.new.open_name ≡ None) }
         ensures cause { HasCause self.old.faults self.new.faults result }
         ensures blames { Blames (Some name) self.old.fault_name self.new.fault_name result }
@@ -116,12 +124,13 @@ impl Source for MemSource {
         ensures exact { result ≡ answer_of_open self.old name }
         ensures after { self.new ≡ after_open self.old name }
     {
+        self.opened = OpenedNames::with(&self.opened, &name);
         let place = place_of(self.files.as_slice(), name.as_str());
         self.calls = self.calls.saturating_add(1);
         let fails = self.failing.as_slice().contains(&self.calls);
         match place {
             Some(place) if !fails => {
-                self.opened = Some(Opened { name, place, at: 0 });
+                self.current = Some(OpenFile { name, place, at: 0 });
                 Ok(())
             }
             _ => Err(self.fail(name)),
@@ -131,6 +140,7 @@ impl Source for MemSource {
     /// Gives as many of the bytes left as fit. Fails exactly at a listed call.
     fn read(&mut self, into: &mut [u8]) -> Result<usize, Failed>
         ensures same { self.new.files ≡ self.old.files }
+        ensures tried { self.new.opened ≡ self.old.opened }
         ensures bound { ReadsAtMost result into.new }
         ensures bytes { IfOk result (λ n. Consumes (Some self.old.rest) (Some self.new.rest) (take n into.new)) }
         ensures end { IfOk result (λ n. n ≡ 0 → 0 < length into.new → IsAtEnd (Some self.new.rest)) }
@@ -143,16 +153,16 @@ impl Source for MemSource {
         ensures exact { result ≡ answer_of_read self.old (length into.old) }
         ensures after { self.new ≡ after_read self.old (length into.old) }
     {
-        let Some(opened) = self.opened.take() else {
+        let Some(file) = self.current.take() else {
             return Ok(0);
         };
         self.calls = self.calls.saturating_add(1);
         if self.failing.as_slice().contains(&self.calls) {
-            return Err(self.fail(opened.name));
+            return Err(self.fail(file.name));
         }
-        let Opened { name, place, at } = opened;
+        let OpenFile { name, place, at } = file;
         let count = copy_part(self.files.as_slice(), place, at, into);
-        self.opened = Some(Opened {
+        self.current = Some(OpenFile {
             name,
             place,
             at: at + count,

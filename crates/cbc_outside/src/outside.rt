@@ -1,9 +1,9 @@
-ghost use Rattle.std.specs.Prelude.{◌≡◌, ℕ, ◌≤◌, ◌<◌, List, Option, Some, None, Ok, length, take, IfOk, IfNone, OnOk, OnErr};
+ghost use Rattle.std.specs.Prelude.{◌≡◌, ℕ, ◌≤◌, ◌<◌, List, [], ◌∷◌, ◌++◌, Option, Some, None, Ok, length, take, IfOk, IfNone, OnOk, OnErr};
 ghost use Rattle.std.specs.Io.{ReadsAtMost};
 ghost use Rattle.std.specs.Io.KnownBytes.{Consumes, IsAtEnd, Appends, Keeps};
 ghost use Rattle.cbc_outside.specs.Outside.{Opens, HasCause, Blames};
 
-use eb_value::Name;
+use eb_names::Name;
 use thiserror::Error;
 
 /// A call of a source or a sink that did not do its work.
@@ -18,6 +18,9 @@ pub struct Failed;
 pub trait Source {
     /// The bytes under each name, where they are told. Of a repeated name the first pair counts.
     ghost files: { Self → Option (List (List ℕ × List ℕ)) };
+
+    /// The names that were given to `open`, oldest first, those of calls that failed among them.
+    ghost opened: { Self → List (List ℕ) };
 
     /// The open file's name. No file is open at first, nor after a call that failed.
     ghost open_name: { Self → Option (List ℕ) };
@@ -37,8 +40,9 @@ pub trait Source {
     /// the count of faults rose, and the fault name is this name.
     fn open(&mut self, name: Name) -> Result<(), Failed>
         ensures same { files self.new ≡ files self.old }
+        ensures tried { opened self.new ≡ opened self.old ++ name ∷ [] }
         ensures named { OnOk result (open_name self.new ≡ Some name) }
-        ensures opened { OnOk result (Opens (files self.old) name (rest self.new)) }
+        ensures whole { OnOk result (Opens (files self.old) name (rest self.new)) }
         ensures closes { OnErr result (open_name self.new ≡ None) }
 
         ensures cause { HasCause (faults self.old) (faults self.new) result }
@@ -51,6 +55,7 @@ pub trait Source {
     /// rose, and the fault name is the file's.
     fn read(&mut self, into: &mut [u8]) -> Result<usize, Failed>
         ensures same { files self.new ≡ files self.old }
+        ensures tried { opened self.new ≡ opened self.old }
         ensures bound { ReadsAtMost result into.new }
         ensures bytes { IfOk result (λ n. Consumes (rest self.old) (rest self.new) (take n into.new)) }
         ensures end { IfOk result (λ n. n ≡ 0 → 0 < length into.new → IsAtEnd (rest self.new)) }

@@ -1,10 +1,10 @@
-ghost use Rattle.std.specs.Prelude.{◌≡◌, ◌≢◌, ◌≤◌, Some, Err, length, take, drop, IfOk, OnOk, OnErr};
+ghost use Rattle.std.specs.Prelude.{◌≡◌, ◌≢◌, ◌≤◌, ◌<◌, ◌++◌, ◌∷◌, [], ℕ, List, Some, Err, length, take, drop, IfOk, OnOk, OnErr};
 ghost use Rattle.std.specs.Io.KnownBytes.{Appends};
-ghost use Rattle.cbc_outside.specs.Outside.{HasCause, Rose, IsLonger, IsWhole, AppendsFront};
+ghost use Rattle.cbc_outside.specs.Outside.{HasCause, Rose, IsWhole, AppendsFront};
 ghost use Rattle.cbc_outside.specs.declared.streams.ReadStop.TheVariants.{Memory};
 
 use crate::outside::{Failed, Sink, Source};
-use eb_value::{Bytes, Name};
+use eb_names::{Bytes, Name};
 use std::alloc::{AllocError, Global};
 use thiserror::Error;
 
@@ -34,11 +34,11 @@ impl From<AllocError> for ReadStop {
 const PIECE: usize = 4096;
 
 /// The bytes of the file with this name, if they are no more than `limit`, which is in bytes. The file is
-/// opened anew, and read from its start to its end or to the first piece that passes the limit.
+/// opened once, and read from its start to its end or to the first piece that passes the limit. No other is opened.
 ///
 /// `Failed`: the source failed to open or to read this file; the count of faults rose, and the fault name is
-/// this name. `TooLong`: no call failed, and the file has more than `limit` bytes. `Memory`: no call failed, and
-/// memory ran out. Where no call failed and memory was there, the file's bytes thus determine the answer.
+/// this name. `TooLong`: no call failed, and the file has more than `limit` bytes. `Memory`: no call failed, the
+/// file is there, and memory ran out. Where no call failed and memory was there, the file's bytes thus determine the answer.
 /// The source can be used again after each answer.
 pub fn read_all<S: Source>(
     alloc: Global,
@@ -47,9 +47,11 @@ pub fn read_all<S: Source>(
     limit: u64,
 ) -> Result<Bytes, ReadStop>
     ensures same { S.files src.new ≡ S.files src.old }
+    ensures tried { S.opened src.new ≡ S.opened src.old ++ name ∷ [] }
     ensures whole { IfOk result (IsWhole (S.files src.old) name) }
     ensures within { IfOk result (λ bytes. length bytes ≤ limit) }
-    ensures too_long { result ≡ Err ReadStop.TooLong → IsLonger (S.files src.old) name limit }
+    ensures too_long { result ≡ Err ReadStop.TooLong → (bytes : List ℕ) × IsWhole (S.files src.old) name bytes × (limit < length bytes) }
+    ensures there { result ≡ Err ReadStop.Memory → (bytes : List ℕ) × IsWhole (S.files src.old) name bytes }
 
     ensures failed { result ≡ Err ReadStop.Failed → Rose (S.faults src.old) (S.faults src.new) }
     ensures blames { result ≡ Err ReadStop.Failed → S.fault_name src.new ≡ Some name }

@@ -7,7 +7,7 @@ use Rattle.eb_lexer.specs.Tokens.{IsTokens, LieFrom}
 use Rattle.eb_lexer.specs.Tokens as lexer
 use Rattle.eb_parser.specs.declared.fault.ParseFault.{ParseFault}
 use Rattle.eb_parser.specs.declared.fault.ParseFault.TheVariants as parsing
-use Rattle.eb_term.specs.declared.units.EbUnit.{EbUnit}
+use Rattle.eb_syntax.specs.declared.units.EbUnit.{EbUnit}
 use Rattle.eb_units.specs.Grammar.{Reads}
 use Rattle.eb_units.specs.Faults as reading
 use Rattle.eb_lower.specs.declared.fault.NameFault.{NameFault}
@@ -19,9 +19,9 @@ use Rattle.eb_infer.specs.Models as types
 use Rattle.linear_models.specs.declared.syntax.LinearModel.{LinearModel}
 use Rattle.linear_models.specs.Language.{linear_model, model_of, is_well_formed}
 use Rattle.cbc_top.specs.Texts.{AreUnits, AreNamedUnits, AreTypedUnits, IsText, IsForeign}
-use Rattle.cbc_top.specs.Stops.{lexing_stop, parsing_stop, naming_stop, typing_stop}
+use Rattle.cbc_top.specs.steps.Stops.{lexing_stop, parsing_stop, naming_stop, typing_stop}
 use Rattle.cbc_top.specs.declared.stop.Stop.{Stop}
-use Rattle.cbc_top.specs.Due.{StopsText, IsReadable}
+use Rattle.cbc_top.specs.steps.Due.{StopsText, IsReadable}
 
 few_from : (ts : List Token) (at : ℕ) (text : List ℕ) → LieFrom at text ts → at + length ts ≤ length text
 few_from [] at text h = omega arith

@@ -1,8 +1,8 @@
+-- The contracts of public functions lead to these. What only private functions cite stands in `steps`.
 pub mod Texts
-pub mod Stops
 pub mod Models
 pub mod Answers
-pub mod Run
-pub mod Due
 pub mod ModelFiles
-pub mod Joining
+pub mod Opening
+pub mod Run
+pub mod steps

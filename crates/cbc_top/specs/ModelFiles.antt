@@ -1,28 +1,30 @@
--- The bytes of a model's files, which are joined with a line feed between two.
-use Rattle.std.specs.Prelude.{ℕ, nat_le, if◌then◌else◌, List, [], ◌∷◌, ◌++◌, length, Option, Some, None, Contains}
-use Rattle.cbc_outside.specs.Outside.{Files, lookup}
+-- The files of a model, and the text that they are together.
+use Rattle.std.specs.Prelude.{◌≡◌, ℕ, ◌≤◌, ◌<◌, List, [], ◌∷◌, ◌++◌, length, slice_get, Some}
 
--- The files are taken in order, up to the first that isn't there or with which the bytes are more than 4 MiB.
-pub data ModelBytes : Type 0 where
-  missing : ModelBytes
-  too_long : ModelBytes
-  whole : List ℕ → ModelBytes
+-- bytes behind a line feed, one after another
+abbrev pub lines_on : List (List ℕ) → List ℕ
+lines_on [] = []
+lines_on (bytes ∷ contents) = 10 ∷ (bytes ++ lines_on contents)
 
--- a file's bytes behind others, and what is next with them all
-abbrev pub add_file : List ℕ → Option (List ℕ) → (List ℕ → ModelBytes) → ModelBytes
-add_file before None next = missing
-add_file before (Some bytes) next = if nat_le (length (before ++ bytes)) 4194304 then next (before ++ bytes) else too_long
+-- the bytes of some files, with one line feed between two
+abbrev pub joined : List (List ℕ) → List ℕ
+joined [] = []
+joined (bytes ∷ contents) = bytes ++ lines_on contents
 
--- more files behind some bytes, each behind a line feed
-abbrev pub joined_on : Files → List ℕ → List (List ℕ) → ModelBytes
-joined_on files bytes [] = whole bytes
-joined_on files bytes (name ∷ names) = add_file (bytes ++ (10 ∷ [])) (lookup files name) (λ more. joined_on files more names)
+-- they are at most 4 MiB
+abbrev pub Fit : List (List ℕ) → Type 0
+Fit contents = length (joined contents) ≤ 4194304
 
-abbrev pub joined : Files → List (List ℕ) → ModelBytes
-joined files [] = whole []
-joined files (name ∷ names) = add_file [] (lookup files name) (λ bytes. joined_on files bytes names)
+-- The files with these names are opened in their order: where those that were read fit, the next is the one whose
+-- place is their number.
+abbrev pub IsNextOf : List (List ℕ) → List (List ℕ) → List ℕ → Type 0
+IsNextOf names contents name = Fit contents × (slice_get names (length contents) ≡ Some name)
 
--- the name is that of one of the files
-abbrev pub IsOneOf : List (List ℕ) → Option (List ℕ) → Type 0
-IsOneOf names None = ⊥
-IsOneOf names (Some name) = Contains names name
+-- all of the files were read, and they fit
+abbrev pub AreAll : List (List ℕ) → List (List ℕ) → Type 0
+AreAll names contents = (length contents ≡ length names) × Fit contents
+
+-- Some of the files were read, or all, and they don't fit. Since none is opened behind such files, it is the last one
+-- that passes the limit.
+abbrev pub AreTooLong : List (List ℕ) → List (List ℕ) → Type 0
+AreTooLong names contents = (length contents ≤ length names) × (4194304 < length (joined contents))

@@ -1,6 +1,7 @@
--- What a run writes, and how it ends.
-use Rattle.std.specs.Prelude.{◌≡◌, ◌⊎◌, ⊤, ℕ, ◌<◌, nat_le, MatchBool, List, [], ◌++◌, length, codes, decimal, Option, Some, None}
-use Rattle.cbc_outside.specs.Outside.{Files, lookup}
+-- What a run reads and writes, and how it ends.
+use Rattle.std.specs.Prelude.{◌≡◌, ◌⊎◌, ⊤, ℕ, ◌<◌, ◌≤◌, List, [], ◌∷◌, ◌++◌, length, codes, decimal, Option, Some, None}
+use Rattle.std.specs.Io.KnownBytes.{Appends}
+use Rattle.cbc_outside.specs.Outside.{Files, Rose}
 use Rattle.cbc_top.specs.declared.status.Status.{Status}
 use Rattle.cbc_top.specs.declared.status.Status.TheVariants.{Decided, Refused, ReadFault, WriteFault, Memory}
 use Rattle.cbc_top.specs.declared.refusal.Refusal.{Refusal}
@@ -8,18 +9,18 @@ use Rattle.cbc_top.specs.declared.refusal.Refusal.TheVariants.{Words, TooLong, N
 use Rattle.cbc_words.specs.declared.action.Action.{Action}
 use Rattle.cbc_words.specs.declared.action.Action.TheVariants as action
 use Rattle.cbc_words.specs.declared.action.Command.{Command}
-use Rattle.cbc_words.specs.Words.{command_of}
 use Rattle.linear_models.specs.declared.syntax.LinearModel.{LinearModel}
 use Rattle.cbc_top.specs.Texts.{IsText, RefusesText}
-use Rattle.cbc_top.specs.ModelFiles.{ModelBytes, missing, too_long, whole, joined, IsOneOf}
+use Rattle.cbc_top.specs.ModelFiles.{joined, IsNextOf, AreAll, AreTooLong}
+use Rattle.cbc_top.specs.Opening.{HasRead}
 use Rattle.cbc_top.specs.Answers.{IsAnswer, IsJudged}
 
 -- no fault and no want of memory ended the run
-abbrev pub IsWhole : Status → Type 0
-IsWhole ReadFault = ⊥
-IsWhole WriteFault = ⊥
-IsWhole Memory = ⊥
-IsWhole _ = ⊤
+abbrev pub IsAnswered : Status → Type 0
+IsAnswered ReadFault = ⊥
+IsAnswered WriteFault = ⊥
+IsAnswered Memory = ⊥
+IsAnswered _ = ⊤
 
 -- the line of a refusal at a place, in bytes
 abbrev pub place_text : List ℕ → ℕ → List ℕ
@@ -47,79 +48,91 @@ refusal_text NotYet = codes "refused E15 NotYet\n"
 abbrev pub IsRefusal : Refusal → List ℕ → Status → Type 0
 IsRefusal refusal bytes status = (bytes ≡ refusal_text refusal) × (status ≡ Refused)
 
--- What is due on a model's bytes: what is due on what they hold, or the refusal. A file that isn't there ends
--- in a fault.
-abbrev pub OnModel : (Option LinearModel → List ℕ → Status → Type 0) → ModelBytes → List ℕ → Status → Type 0
-OnModel Due missing bytes status = ⊥
-OnModel Due too_long bytes status = IsRefusal TooLong bytes status
-OnModel Due (whole text) bytes status =
+-- ---- which files are opened
+
+-- all files of the model were read, and they are a text of the language
+abbrev pub IsModel : List (List ℕ) → List (List ℕ) → LinearModel → Type 0
+IsModel names contents t = AreAll names contents × IsText (joined contents) (Some t)
+
+-- The action opens the file with this name next, behind these contents: the files of the model in their order, and the
+-- tree's once the model is read and of the language. The actions that aren't built yet open none.
+abbrev pub OpensNext : Action → List (List ℕ) → List ℕ → Type 0
+OpensNext (action.Solve names) = IsNextOf names
+OpensNext (action.Check names tree) = λ contents name. IsNextOf names contents name ⊎ (((t : LinearModel) × IsModel names contents t) × (name ≡ tree))
+OpensNext (action.Cover names) = λ contents name. ⊥
+OpensNext (action.Replay names test) = λ contents name. ⊥
+OpensNext (action.Gen number) = λ contents name. ⊥
+
+-- and words that are no command open none
+abbrev pub IsNext : Option Command → List (List ℕ) → List ℕ → Type 0
+IsNext None = λ contents name. ⊥
+IsNext (Some command) = OpensNext command.action
+
+-- ---- what is lawful
+
+-- the text holds something, and what is due on it; or the text's refusal
+abbrev pub OnText : (Option LinearModel → List ℕ → Status → Type 0) → List ℕ → List ℕ → Status → Type 0
+OnText Due text bytes status =
     ((t : Option LinearModel) × IsText text t × Due t bytes status)
     ⊎ ((refusal : Refusal) × RefusesText text refusal × IsRefusal refusal bytes status)
+
+-- where the files of a model were read, and no other: what is due on their text, or that they are too long
+abbrev pub OnModel : (Option LinearModel → List ℕ → Status → Type 0) → List (List ℕ) → List (List ℕ) → List ℕ → Status → Type 0
+OnModel Due names contents bytes status =
+    (AreAll names contents × OnText Due (joined contents) bytes status)
+    ⊎ (AreTooLong names contents × IsRefusal TooLong bytes status)
 
 -- a text without a query has no answer
 abbrev pub IsSolved : ℕ → Option LinearModel → List ℕ → Status → Type 0
 IsSolved budget None bytes status = (bytes ≡ []) × (status ≡ Decided)
 IsSolved budget (Some t) bytes status = IsAnswer t budget bytes status
 
--- A tree is judged by a model. Its file has at most 16 MiB.
-abbrev pub OnTree : Option (List ℕ) → Option LinearModel → List ℕ → Status → Type 0
-OnTree tree None bytes status = IsRefusal NotYet bytes status
-OnTree None (Some t) bytes status = ⊥
-OnTree (Some tree) (Some t) bytes status = MatchBool (nat_le (length tree) 16777216) (IsJudged t tree bytes status) (IsRefusal NotYet bytes status)
+-- where no tree was read, there is no query that it could be judged by
+abbrev pub IsWithoutTree : Option LinearModel → List ℕ → Status → Type 0
+IsWithoutTree None bytes status = IsRefusal NotYet bytes status
+IsWithoutTree (Some t) bytes status = ⊥
 
--- The model is judged before the tree's file. Some actions aren't built yet.
-abbrev pub OnAction : Action → ℕ → Files → List ℕ → Status → Type 0
-OnAction (action.Solve names) budget files bytes status = OnModel (IsSolved budget) (joined files names) bytes status
-OnAction (action.Check names tree) budget files bytes status = OnModel (OnTree (lookup files tree)) (joined files names) bytes status
-OnAction (action.Cover names) budget files bytes status = IsRefusal NotYet bytes status
-OnAction (action.Replay names test) budget files bytes status = IsRefusal NotYet bytes status
-OnAction (action.Gen number) budget files bytes status = IsRefusal NotYet bytes status
+-- The tree was read behind the model. It is judged if it has at most 16 MiB.
+pub record OnTree (names contents : List (List ℕ)) (bytes : List ℕ) (status : Status) : Type 0 where
+  pub model : List (List ℕ)
+  pub tree : List ℕ
+  pub behind : contents ≡ model ++ tree ∷ []
+  pub t : LinearModel
+  pub is_model : IsModel names model t
+  pub due : ((length tree ≤ 16777216) × IsJudged t tree bytes status) ⊎ ((16777216 < length tree) × IsRefusal NotYet bytes status)
 
-abbrev pub OnCommand : Option Command → Files → List ℕ → Status → Type 0
-OnCommand None files bytes status = IsRefusal Words bytes status
-OnCommand (Some command) files bytes status = OnAction command.action command.budget files bytes status
+-- These bytes and this status are lawful where the action has read these contents and opens no further file. Some actions
+-- aren't built yet.
+abbrev pub Completes : Action → ℕ → List (List ℕ) → List ℕ → Status → Type 0
+Completes (action.Solve names) budget contents bytes status = OnModel (IsSolved budget) names contents bytes status
+Completes (action.Check names tree) budget contents bytes status = OnModel IsWithoutTree names contents bytes status ⊎ OnTree names contents bytes status
+Completes (action.Cover names) budget contents bytes status = IsRefusal NotYet bytes status
+Completes (action.Replay names test) budget contents bytes status = IsRefusal NotYet bytes status
+Completes (action.Gen number) budget contents bytes status = IsRefusal NotYet bytes status
 
--- These bytes and this status are lawful at these words and files.
-abbrev pub Run : List (List ℕ) → Files → List ℕ → Status → Type 0
-Run words files bytes status = OnCommand (command_of words) files bytes status
+-- and words that are no command are refused, with no file opened
+abbrev pub Ends : Option Command → List (List ℕ) → List ℕ → Status → Type 0
+Ends None = λ contents. IsRefusal Words
+Ends (Some command) = Completes command.action command.budget
 
 -- nothing, or a proper front of bytes that are lawful
-abbrev pub Begins : List (List ℕ) → Files → List ℕ → Type 0
-Begins words files bytes = (bytes ≡ []) ⊎ ((more : List ℕ) × (0 < length more) × (status : Status) × Run words files (bytes ++ more) status)
+abbrev pub Begins : Option Command → List (List ℕ) → List ℕ → Type 0
+Begins command contents bytes = (bytes ≡ []) ⊎ ((more : List ℕ) × (0 < length more) × (status : Status) × Ends command contents (bytes ++ more) status)
 
--- the action reads a file with this name
-abbrev pub IsFileOfAction : Action → Option (List ℕ) → Type 0
-IsFileOfAction (action.Solve names) name = IsOneOf names name
-IsFileOfAction (action.Check names tree) name = IsOneOf names name ⊎ (name ≡ Some tree)
-IsFileOfAction _ name = ⊥
+-- ---- a run
 
--- the command reads a file with this name
-abbrev pub IsFileOf : Option Command → Option (List ℕ) → Type 0
-IsFileOf None name = ⊥
-IsFileOf (Some command) name = IsFileOfAction command.action name
+-- What a run read and what it wrote have P: the files that it opened are those that the command opens, in its order, and the
+-- bytes are those that the sink took, where it tells them.
+pub record Ran (command : Option Command) (files : Option Files) (old new : List (List ℕ)) (taken taken_now : Option (List ℕ)) (P : List (List ℕ) → List ℕ → Type 0) : Type 0 where
+  pub contents : List (List ℕ)
+  pub read : HasRead (IsNext command) files old new contents
+  pub bytes : List ℕ
+  pub written : Appends taken taken_now bytes
+  pub lawful : P contents bytes
 
--- these are the bytes of a text of the language
-abbrev pub IsModel : ModelBytes → Type 0
-IsModel missing = ⊥
-IsModel too_long = ⊥
-IsModel (whole text) = (t : LinearModel) × IsText text (Some t)
-
-abbrev pub ActsInOrder : Action → Files → Option (List ℕ) → Type 0
-ActsInOrder (action.Check names tree) files name = IsOneOf names name ⊎ IsModel (joined files names)
-ActsInOrder _ files name = ⊤
-
--- where the name isn't that of a file of the command's model, the model was read
-abbrev pub JudgesModelFirst : Option Command → Files → Option (List ℕ) → Type 0
-JudgesModelFirst None files name = ⊤
-JudgesModelFirst (Some command) files name = ActsInOrder command.action files name
-
--- a fact of the files, where they are told
-abbrev pub ForFiles : Option Files → (Files → Type 0) → Type 0
-ForFiles None P = ⊤
-ForFiles (Some files) P = P files
-
--- what was written between, where it is told, has P
-abbrev pub Writes : Option (List ℕ) → Option (List ℕ) → (List ℕ → Type 0) → Type 0
-Writes None new P = ⊤
-Writes (Some old) None P = ⊥
-Writes (Some old) (Some new) P = (bytes : List ℕ) × (new ≡ old ++ bytes) × P bytes
+-- The status says which calls failed: some of the source's, then some of the sink's, or none. The counts are the source's
+-- before and after the run, and the sink's.
+abbrev pub AreFaultsOf : Status → ℕ → ℕ → ℕ → ℕ → Type 0
+AreFaultsOf ReadFault source source_now sink sink_now = Rose source source_now × (sink_now ≡ sink)
+AreFaultsOf WriteFault source source_now sink sink_now = (source_now ≡ source) × Rose sink sink_now
+AreFaultsOf _ source source_now sink sink_now = (source_now ≡ source) × (sink_now ≡ sink)

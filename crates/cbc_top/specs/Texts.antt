@@ -5,7 +5,7 @@ use Rattle.eb_lexer.specs.declared.token.Token.{Token}
 use Rattle.eb_lexer.specs.Tokens.{IsTokens, IsBadAt}
 use Rattle.eb_parser.specs.declared.fault.ParseFault.{ParseFault}
 use Rattle.eb_parser.specs.declared.fault.ParseFault.TheVariants as parsing
-use Rattle.eb_term.specs.declared.units.EbUnit.{EbUnit}
+use Rattle.eb_syntax.specs.declared.units.EbUnit.{EbUnit}
 use Rattle.eb_units.specs.Grammar.{Reads}
 use Rattle.eb_units.specs.Faults as reading
 use Rattle.eb_lower.specs.declared.fault.NameFault.{NameFault}

@@ -3,7 +3,8 @@ ghost use Rattle.tree_form.specs.Lines.{line_text};
 ghost use Rattle.tree_checker.specs.Texts.{joined};
 ghost use Rattle.cbc_top.specs.Answers as spec;
 
-use eb_value::{Bytes, Name, Names, Value, value_text};
+use eb_names::{Bytes, Name, Names};
+use eb_value::{Value, value_text};
 use itoa::Buffer;
 use std::alloc::{AllocError, Global};
 use tree_checker::{Cause, Verdict};

@@ -1,7 +1,8 @@
 //! The whole program behind its words: one call, `run`.
 //!
 //! The definitions that its contract cites stand in `specs/`, by room: the text (`Texts`), its problem (`Models`), the
-//! answers (`Answers`) and the run (`Run`).
+//! answers (`Answers`), the model's files (`ModelFiles`), the files that are opened (`Opening`) and the run (`Run`). What only
+//! private functions cite stands in `specs/steps`.
 #![tactic(auto)]
 
 mod answer;
@@ -21,6 +22,3 @@ pub use problem::{problem_of, scope_of};
 pub use refusal::Refusal;
 pub use status::Status;
 pub use top::run;
-
-#[cfg(test)]
-mod tests;

@@ -1,8 +1,9 @@
 ghost use Rattle.std.specs.Prelude.{◌≡◌, ◌<◌, ◌^◌, map, length, true, IfOk};
 ghost use Rattle.cbc_top.specs.Models as spec;
 
+use eb_names::Name;
 use eb_term::{Binary, Choice, Choices, Problem, Term, Terms, Unary};
-use eb_value::{Name, Scope, Sizes};
+use eb_value::{Scope, Sizes};
 use linear_models::{Axiom, Comparison, Direction, LinearModel, Relation, Sum, Summand};
 use std::alloc::{AllocError, Global};
 

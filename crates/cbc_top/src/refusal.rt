@@ -1,7 +1,7 @@
 ghost use Rattle.std.specs.Prelude.{◌≡◌, IfOk};
 ghost use Rattle.cbc_top.specs.Run as spec;
 
-use eb_value::{Bytes, Name};
+use eb_names::{Bytes, Name};
 use itoa::Buffer;
 use std::alloc::{AllocError, Global};
 

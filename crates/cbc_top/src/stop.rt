@@ -1,6 +1,6 @@
 ghost use Rattle.std.specs.Prelude.{◌≡◌};
 ghost use Rattle.cbc_top.specs.declared.stop.Stop.TheVariants as stop;
-ghost use Rattle.cbc_top.specs.Stops as spec;
+ghost use Rattle.cbc_top.specs.steps.Stops as spec;
 
 use crate::refusal::Refusal;
 use eb_infer::TypeFault;

@@ -1,14 +1,14 @@
 //! From the bytes of a model's text to what it holds.
 ghost use Rattle.std.specs.Prelude.{◌<◌, ◌^◌, length, IfOk, IfErr};
 ghost use Rattle.cbc_top.specs.Texts as spec;
-ghost use Rattle.cbc_top.specs.Due as due;
+ghost use Rattle.cbc_top.specs.steps.Due as due;
 
 use crate::refusal::Refusal;
 use crate::stop::Stop;
 use eb_infer::infer;
 use eb_lexer::{a_text_is_read_in_one_way, tokens, tokens_name_slices};
 use eb_lower::names;
-use eb_term::Units;
+use eb_syntax::Units;
 use eb_units::{a_text_has_one_reading, units};
 use linear_models::{LinearModel, linear_model};
 use std::alloc::Global;

@@ -1,12 +1,11 @@
-ghost use Rattle.std.specs.Prelude.{◌≡◌, ◌≢◌, true, ◌<◌, ◌≤◌, ◌^◌, length, IfOk, Some, Err};
-ghost use Rattle.std.specs.Io.KnownBytes.{Appends};
-ghost use Rattle.cbc_outside.specs.Outside.{Rose, AppendsFront, lookup};
+ghost use Rattle.std.specs.Prelude.{◌≡◌, ◌⊎◌, ℕ, true, ◌<◌, ◌≤◌, ◌^◌, ◌++◌, ◌∷◌, [], length, IfOk};
 ghost use Rattle.linear_models.specs.Language.{is_well_formed};
 ghost use Rattle.cbc_words.specs.Words.{command_of};
-ghost use Rattle.cbc_top.specs.ModelFiles as files_of;
+ghost use Rattle.cbc_top.specs.Opening.{HasFailed};
 ghost use Rattle.cbc_top.specs.Answers as answers;
 ghost use Rattle.cbc_top.specs.Run as spec;
-ghost use Rattle.cbc_top.specs.Due as due;
+ghost use Rattle.cbc_top.specs.steps.Due as due;
+ghost use Rattle.cbc_top.specs.steps.Reads as reads;
 
 use crate::answer::{found, judged, refuted, undecided};
 use crate::model_files::joined;
@@ -18,7 +17,7 @@ use crate::text::model_text;
 use branch_search::{Answer, search};
 use cbc_outside::{ReadStop, Sink, Source, read_all, write_all};
 use cbc_words::{Action, WordsFault, command};
-use eb_value::{Bytes, Name, Names};
+use eb_names::{Bytes, Name, Names};
 use linear_models::LinearModel;
 use std::alloc::{AllocError, Global};
 use tree_checker::{Verdict, check_text};
@@ -56,7 +55,7 @@ fn solved(alloc: Global, text: &LinearModel, budget: u64) -> Result<Due, AllocEr
 fn solved_text(alloc: Global, model: Option<LinearModel>, budget: u64) -> Result<Due, AllocError>
     requires { due.IsReadable model }
     ensures lawful { IfOk result (λ d. spec.IsSolved budget model d.0 d.1) }
-    ensures whole { IfOk result (λ d. spec.IsWhole d.1) }
+    ensures answered { IfOk result (λ d. spec.IsAnswered d.1) }
 {
     match model {
         Some(text) => solved(alloc, &text, budget),
@@ -94,11 +93,9 @@ fn model_in<S: Source>(
     names: &[Name],
 ) -> Result<Option<LinearModel>, Stop>
     ensures same { S.files src.new ≡ S.files src.old }
-    ensures read { spec.ForFiles (S.files src.old) (λ files. due.ReadsModel (files_of.joined files names.now) result) }
+    ensures read { reads.ReadsModel names.now (S.files src.old) (S.opened src.old) (S.opened src.new) (S.fault_name src.new) result }
     ensures readable { IfOk result due.IsReadable }
-    ensures fault { result ≡ Err Stop.ReadFault → Rose (S.faults src.old) (S.faults src.new) }
-    ensures named { result ≡ Err Stop.ReadFault → files_of.IsOneOf names.now (S.fault_name src.new) }
-    ensures kept { IfOk result (λ t. S.faults src.new ≡ S.faults src.old) }
+    ensures fault { reads.IsFaultOf result (S.faults src.old) (S.faults src.new) }
 {
     match joined(alloc, src, names) {
         Ok(text) => model_text(alloc, text.as_slice()),
@@ -108,12 +105,12 @@ fn model_in<S: Source>(
     }
 }
 
-/// The text of a tree's file.
+/// The text of a tree's file, which is opened once.
 fn tree_in<S: Source>(alloc: Global, src: &mut S, file: Name) -> Result<Bytes, Stop>
-    ensures read { spec.ForFiles (S.files src.old) (λ files. due.ReadsTree (lookup files file) result) }
-    ensures short { IfOk result (λ text. length text ≤ 16777216) }
-    ensures fault { result ≡ Err Stop.ReadFault → Rose (S.faults src.old) (S.faults src.new) }
-    ensures named { result ≡ Err Stop.ReadFault → S.fault_name src.new ≡ Some file }
+    ensures same { S.files src.new ≡ S.files src.old }
+    ensures tried { S.opened src.new ≡ S.opened src.old ++ file ∷ [] }
+    ensures read { reads.ReadsTree (S.files src.old) file (S.fault_name src.new) result }
+    ensures fault { reads.IsFaultOf result (S.faults src.old) (S.faults src.new) }
 {
     match read_all(alloc, src, file, LONGEST_TREE) {
         Ok(text) => Ok(text),
@@ -130,13 +127,13 @@ fn due_at_solve<S: Source>(
     names: Names,
     budget: u64,
 ) -> Result<Due, Stop>
-    ensures lawful { spec.ForFiles (S.files src.old) (λ files. due.DueBy (spec.OnAction (Action.Solve names) budget files) result) }
-    ensures whole { IfOk result (λ d. spec.IsWhole d.1) }
-    ensures fault { result ≡ Err Stop.ReadFault → Rose (S.faults src.old) (S.faults src.new) }
-    ensures named { result ≡ Err Stop.ReadFault → spec.IsFileOfAction (Action.Solve names) (S.fault_name src.new) }
+    ensures same { S.files src.new ≡ S.files src.old }
+    ensures lawful { due.DueAt (spec.OpensNext (Action.Solve names)) (spec.Completes (Action.Solve names) budget) (S.files src.old) (S.opened src.old) (S.opened src.new) (S.fault_name src.new) result }
+    ensures answered { IfOk result (λ d. spec.IsAnswered d.1) }
+    ensures fault { reads.IsFaultOf result (S.faults src.old) (S.faults src.new) }
 {
-    let model = model_in(alloc, src, names.as_slice())?;
-    let due = solved_text(alloc, model, budget)?;
+    let asked = model_in(alloc, src, names.as_slice())?;
+    let due = solved_text(alloc, asked, budget)?;
     Ok(due)
 }
 
@@ -147,11 +144,10 @@ fn due_at_check<S: Source>(
     names: Names,
     tree: Name,
 ) -> Result<Due, Stop>
-    ensures lawful { spec.ForFiles (S.files src.old) (λ files. due.DueBy (spec.OnAction (Action.Check names tree) 0 files) result) }
-    ensures whole { IfOk result (λ d. spec.IsWhole d.1) }
-    ensures fault { result ≡ Err Stop.ReadFault → Rose (S.faults src.old) (S.faults src.new) }
-    ensures named { result ≡ Err Stop.ReadFault → spec.IsFileOfAction (Action.Check names tree) (S.fault_name src.new) }
-    ensures order { result ≡ Err Stop.ReadFault → spec.ForFiles (S.files src.old) (λ files. spec.ActsInOrder (Action.Check names tree) files (S.fault_name src.new)) }
+    ensures same { S.files src.new ≡ S.files src.old }
+    ensures lawful { (budget : ℕ) → due.DueAt (spec.OpensNext (Action.Check names tree)) (spec.Completes (Action.Check names tree) budget) (S.files src.old) (S.opened src.old) (S.opened src.new) (S.fault_name src.new) result }
+    ensures answered { IfOk result (λ d. spec.IsAnswered d.1) }
+    ensures fault { reads.IsFaultOf result (S.faults src.old) (S.faults src.new) }
 {
     let model = model_in(alloc, src, names.as_slice())?;
     match model {
@@ -166,11 +162,10 @@ fn due_at_check<S: Source>(
 
 /// What is due at these words.
 fn due_at<S: Source>(alloc: Global, words: &[Name], src: &mut S) -> Result<Due, Stop>
-    ensures lawful { spec.ForFiles (S.files src.old) (λ files. due.DueBy (spec.Run words.now files) result) }
-    ensures whole { IfOk result (λ d. spec.IsWhole d.1) }
-    ensures fault { result ≡ Err Stop.ReadFault → Rose (S.faults src.old) (S.faults src.new) }
-    ensures named { result ≡ Err Stop.ReadFault → spec.IsFileOf (command_of words.now) (S.fault_name src.new) }
-    ensures order { result ≡ Err Stop.ReadFault → spec.ForFiles (S.files src.old) (λ files. spec.JudgesModelFirst (command_of words.now) files (S.fault_name src.new)) }
+    ensures same { S.files src.new ≡ S.files src.old }
+    ensures lawful { due.DueAt (spec.IsNext (command_of words.now)) (spec.Ends (command_of words.now)) (S.files src.old) (S.opened src.old) (S.opened src.new) (S.fault_name src.new) result }
+    ensures answered { IfOk result (λ d. spec.IsAnswered d.1) }
+    ensures fault { reads.IsFaultOf result (S.faults src.old) (S.faults src.new) }
 {
     let command = match command(alloc, words) {
         Ok(command) => command,
@@ -189,11 +184,8 @@ fn due_at<S: Source>(alloc: Global, words: &[Name], src: &mut S) -> Result<Due, 
 
 /// Writes the bytes and ends with the status, or at a fault.
 fn say<K: Sink>(out: &mut K, bytes: &[u8], status: Status) -> Status
-    requires { spec.IsWhole status }
-    ensures said { spec.IsWhole result → (result ≡ status) × Appends (K.taken out.old) (K.taken out.new) bytes.now }
-    ensures cut { (spec.IsWhole result → ⊥) → AppendsFront (K.taken out.old) (K.taken out.new) bytes.now }
-    ensures fault { result ≡ Status.WriteFault → Rose (K.faults out.old) (K.faults out.new) }
-    ensures no_read_fault { result ≢ Status.ReadFault }
+    requires { spec.IsAnswered status }
+    ensures { due.Says status bytes.now (K.taken out.old) (K.taken out.new) (K.faults out.old) (K.faults out.new) result }
 {
     match write_all(out, bytes) {
         Ok(()) => status,
@@ -215,21 +207,24 @@ fn say<K: Sink>(out: &mut K, bytes: &[u8], status: Status) -> Status
 /// with the first name that is used without a declaration; `E7` where there are no types for all identifiers, `E8` where
 /// there are several; `E15` a model that isn't of the language that is answered today, or
 /// a tree file that is too long.
+///
+/// The model's files are opened in the order of the words, each once, up to the first that can't be read or with which they
+/// are too long; the tree's file is opened once, and only where the model is one that is answered today. No other file is opened.
+/// `ReadFault`: the file that was opened last could not be read; the source has its name, and nothing is written. `WriteFault`: the
+/// output took not all that was due. `Memory`: memory ran out. In each other status no call of the source or the output failed.
 pub fn run<S: Source, K: Sink>(alloc: Global, words: &[Name], src: &mut S, out: &mut K) -> Status
-    // Where no fault and no want of memory ended it, what it wrote and its status are lawful.
-    ensures answers { spec.IsWhole result → spec.ForFiles (S.files src.old) (λ files.
-        spec.Writes (K.taken out.old) (K.taken out.new) (λ bytes. spec.Run words.now files bytes result)) }
-    // Else what it wrote is a proper front of something lawful.
-    ensures front { (spec.IsWhole result → ⊥) → spec.ForFiles (S.files src.old) (λ files.
-        spec.Writes (K.taken out.old) (K.taken out.new) (spec.Begins words.now files)) }
-    // A read fault comes only where the source failed at a file of the command, before any output.
-    ensures read_fault { result ≡ Status.ReadFault → Rose (S.faults src.old) (S.faults src.new) }
-    ensures read_name { result ≡ Status.ReadFault → spec.IsFileOf (command_of words.now) (S.fault_name src.new) }
-    // It comes at a tree's file only where the model was read and is of the language.
-    ensures read_order { result ≡ Status.ReadFault → spec.ForFiles (S.files src.old) (λ files.
-        spec.JudgesModelFirst (command_of words.now) files (S.fault_name src.new)) }
+    ensures same { S.files src.new ≡ S.files src.old }
+    // A call of the source failed and none of the sink's; or one of the sink's and none of the source's; or none.
+    ensures faults { spec.AreFaultsOf result (S.faults src.old) (S.faults src.new) (K.faults out.old) (K.faults out.new) }
+    // Where neither a fault nor want of memory ended it, what it wrote and its status are lawful by what it read.
+    ensures answers { spec.IsAnswered result → spec.Ran (command_of words.now) (S.files src.old) (S.opened src.old) (S.opened src.new)
+        (K.taken out.old) (K.taken out.new) (λ contents bytes. spec.Ends (command_of words.now) contents bytes result) }
+    // A read fault comes at the file that was next, before any output.
+    ensures read_fault { result ≡ Status.ReadFault → HasFailed (spec.IsNext (command_of words.now)) (S.files src.old) (S.opened src.old) (S.opened src.new) (S.fault_name src.new) }
     ensures read_nothing { result ≡ Status.ReadFault → K.taken out.new ≡ K.taken out.old }
-    ensures write_fault { result ≡ Status.WriteFault → Rose (K.faults out.old) (K.faults out.new) }
+    // Else what it wrote is nothing, or a proper front of something lawful by what it read.
+    ensures front { (result ≡ Status.WriteFault) ⊎ (result ≡ Status.Memory) → spec.Ran (command_of words.now) (S.files src.old) (S.opened src.old) (S.opened src.new)
+        (K.taken out.old) (K.taken out.new) (spec.Begins (command_of words.now)) }
 {
     match due_at(alloc, words, src) {
         Ok((bytes, status)) => say(out, bytes.as_slice(), status),

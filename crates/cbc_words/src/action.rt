@@ -2,7 +2,7 @@ ghost use Rattle.std.specs.Prelude.{◌≡◌};
 ghost use Rattle.cbc_words.specs.Actions as spec;
 
 use crate::number::small_number;
-use eb_value::{Name, Names};
+use eb_names::{Name, Names};
 
 /// What the program is asked to do, with what the action takes. No list of files is empty.
 #[derive(Debug, Drop)]

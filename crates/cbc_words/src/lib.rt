@@ -13,6 +13,3 @@ pub use action::{Action, Command};
 pub use fault::WordsFault;
 pub use laws::{commands_are_those_of_the_table, refusals_have_a_cause};
 pub use words::command;
-
-#[cfg(test)]
-mod tests;

@@ -7,7 +7,7 @@ ghost use Rattle.cbc_words.specs.Words as spec;
 use crate::action::{Command, action_of};
 use crate::number::small_number;
 use clap::ArgMatches;
-use eb_value::{Name, Names};
+use eb_names::{Name, Names};
 use std::alloc::{AllocError, Global};
 
 /// The number of splits where the words give none.

@@ -6,7 +6,7 @@ use crate::fault::WordsFault;
 use crate::matched::command_in;
 use crate::simple::simple_command;
 use clap::error::ErrorKind;
-use eb_value::Name;
+use eb_names::Name;
 use std::alloc::{AllocError, Global};
 
 /// The texts of the words. The only error is want of memory.

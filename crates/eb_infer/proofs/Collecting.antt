@@ -1,25 +1,25 @@
 -- A walk that makes equations is one that collects formulas, with the equations of these.
 use Rattle.std.proofs.Common.{◌≡◌, ◌∙◌, ℕ, List, [], ◌∷◌, length, refl, ap}
 use Rattle.std.specs.Prelude.{fold, Option, Some, None}
-use Rattle.eb_term.specs.declared.ast.Ast.{Ast}
-use Rattle.eb_term.specs.declared.ast.Identifier.{Identifier}
-use Rattle.eb_term.specs.declared.units.LabelledPredicate.{LabelledPredicate}
-use Rattle.eb_term.specs.declared.units.ContextClause.{ContextClause}
-use Rattle.eb_term.specs.declared.units.ContextClause.TheVariants as context
-use Rattle.eb_term.specs.declared.units.NamesClause.{NamesClause}
-use Rattle.eb_term.specs.declared.units.PredicatesClause.{PredicatesClause}
-use Rattle.eb_term.specs.declared.units.Assignment.{Assignment}
-use Rattle.eb_term.specs.declared.units.Assignment.TheVariants as becomes
-use Rattle.eb_term.specs.declared.units.Action.{Action}
-use Rattle.eb_term.specs.declared.units.Event.{Event}
-use Rattle.eb_term.specs.declared.units.MachineClause.{MachineClause}
-use Rattle.eb_term.specs.declared.units.MachineClause.TheVariants as machine
-use Rattle.eb_term.specs.declared.units.EbUnit.{EbUnit}
-use Rattle.eb_term.specs.declared.units.EbUnit.TheVariants as eb
-use Rattle.eb_infer.specs.declared.names.Entry.{Entry}
+use Rattle.eb_syntax.specs.declared.ast.Ast.{Ast}
+use Rattle.eb_syntax.specs.declared.ast.Identifier.{Identifier}
+use Rattle.eb_syntax.specs.declared.units.LabelledPredicate.{LabelledPredicate}
+use Rattle.eb_syntax.specs.declared.units.ContextClause.{ContextClause}
+use Rattle.eb_syntax.specs.declared.units.ContextClause.TheVariants as context
+use Rattle.eb_syntax.specs.declared.units.NamesClause.{NamesClause}
+use Rattle.eb_syntax.specs.declared.units.PredicatesClause.{PredicatesClause}
+use Rattle.eb_syntax.specs.declared.units.Assignment.{Assignment}
+use Rattle.eb_syntax.specs.declared.units.Assignment.TheVariants as becomes
+use Rattle.eb_syntax.specs.declared.units.Action.{Action}
+use Rattle.eb_syntax.specs.declared.units.Event.{Event}
+use Rattle.eb_syntax.specs.declared.units.MachineClause.{MachineClause}
+use Rattle.eb_syntax.specs.declared.units.MachineClause.TheVariants as machine
+use Rattle.eb_syntax.specs.declared.units.EbUnit.{EbUnit}
+use Rattle.eb_syntax.specs.declared.units.EbUnit.TheVariants as eb
+use Rattle.eb_infer.specs.declared.entries.Entry.{Entry}
 use Rattle.eb_infer.specs.declared.generated.Generated.{Generated}
 use Rattle.eb_infer.specs.Numbering.{Numbered, unbind}
-use Rattle.eb_infer.specs.Generating.{demanded}
+use Rattle.eb_infer.specs.steps.Generating.{demanded}
 use Rattle.eb_infer.specs.Models.{Walk, with_names, declare, carrier, labelled, predicates, assigned, becomes_equal, assignment, action, actions, parameters, guards, event, context_clause, machine_clause, one_unit, start, walk, collected}
 use Rattle.eb_infer.proofs.Soundness.{all_demanded}
 

@@ -1,145 +1,167 @@
 -- Where a formula has a sort, there are types for the new numbers that solve its equations.
-use Rattle.std.proofs.Common.{◌≡◌, ◌∙◌, ℕ, ◌+◌, ◌<◌, List, [], ◌∷◌, map, length, refl, sym, ap, subst, arith}
+use Rattle.std.proofs.Common.{◌≡◌, ◌∙◌, ℕ, zero, suc, ◌+◌, ◌<◌, ◌≤◌, List, [], ◌∷◌, map, length, refl, sym, ap, subst, arith}
 use Rattle.std.proofs.lemmas.Bool.{lt-ltb}
 use Rattle.std.proofs.lemmas.Option.{slice_get_within}
 use Rattle.std.specs.Prelude.{⊤, Option, Some, None, slice_get, fold, option_map, option_and_then}
-use Rattle.eb_term.specs.declared.ast.Mark.{Mark}
-use Rattle.eb_term.specs.declared.ast.Mark.TheVariants as mark
-use Rattle.eb_term.specs.declared.ast.Identifier.{Identifier}
+use Rattle.eb_syntax.specs.declared.ast.Mark.{Mark}
+use Rattle.eb_syntax.specs.declared.ast.Mark.TheVariants as mark
+use Rattle.eb_syntax.specs.declared.ast.Identifier.{Identifier}
 use Rattle.eb_value.specs.declared.types.EbType.{EbType}
 use Rattle.eb_value.specs.Types as type
 use Rattle.type_equations.specs.declared.equation.Equation.TheVariants as eq
-use Rattle.eb_infer.specs.declared.pattern.Letter.{Letter}
-use Rattle.eb_infer.specs.declared.pattern.Letter.TheVariants.{A, B, C, D}
-use Rattle.eb_infer.specs.declared.pattern.Pattern.{Pattern}
-use Rattle.eb_infer.specs.declared.pattern.Pattern.TheVariants as p
+use Rattle.type_table.specs.declared.pattern.Letter.{Letter}
+use Rattle.type_table.specs.declared.pattern.Letter.TheVariants.{A, B, C, D}
+use Rattle.type_table.specs.declared.pattern.Pattern.{Pattern}
+use Rattle.type_table.specs.declared.pattern.Pattern.TheVariants as p
 use Rattle.eb_infer.specs.declared.generated.Found.{Found}
 use Rattle.eb_infer.specs.declared.generated.Found.TheVariants.{Predicate, Expression}
 use Rattle.eb_infer.specs.declared.generated.Letters.{Letters}
 use Rattle.eb_infer.specs.declared.generated.Generated.{Generated}
-use Rattle.eb_infer.specs.Rows.{Sort, predicate, expression, Choice, chosen, sort}
+use Rattle.type_table.specs.Rows.{Sort, predicate, expression, Choice, chosen, sort}
 use Rattle.eb_infer.specs.Numbering.{Numbered, typed, unknown, tuple, made, Parts, none, also}
 use Rattle.eb_infer.specs.Typing.{Group, ungrouped, paired, closed, with_type, grouped, tuple_type, HasSort, HaveSorts, ArePredicates}
-use Rattle.eb_infer.specs.Generating as g
-use Rattle.eb_infer.specs.Generating.{put, contradict, letter, build, same, fit, fits, row, gen, gens, checked, paired_with, token, tuple_end, tuple_made, demand, demanded, letters_at, after_letters}
+use Rattle.eb_infer.specs.steps.Generating as g
+use Rattle.eb_infer.specs.steps.Generating.{put, contradict, letter, state, build, fit, fits, row, gen, gens, checked, paired_with, token, tuple_end, tuple_made, demand, demanded, letters_at, after_letters, rank, width, widest}
 use Rattle.eb_infer.proofs.Soundness.{sort_at, group_at, all_demanded}
-use Rattle.eb_infer.proofs.Extending.{has_get, Grows, stays, never, puts, then, weaker, news, new_power, new_product, new_relation}
+use Rattle.eb_infer.proofs.Extending.{has_get, Grows, stays, never, puts, then, weaker, news, fresh, new_power, new_product, inner, power_put, relation_put}
 
 abbrev Claim : Type 1
 Claim = (ℕ → EbType) → Type 0
 
--- the letters have these types
-abbrev At : Letters → Choice → Claim
-At l v σ = (σ l.a ≡ v.for_a) × (σ l.b ≡ v.for_b) × (σ l.c ≡ v.for_c) × (σ l.d ≡ v.for_d)
+-- so many letters have these types
+abbrev At : ℕ → Letters → Choice → Claim
+At w l v σ = (0 < w → σ l.a ≡ v.for_a) × (1 < w → σ l.b ≡ v.for_b) × (2 < w → σ l.c ≡ v.for_c) × (3 < w → σ l.d ≡ v.for_d)
 
-at_letter : (l : Letters) (v : Choice) (σ : ℕ → EbType) (x : Letter) → At l v σ → σ (letter l x) ≡ chosen v x
-at_letter l v σ A h = h.0
-at_letter l v σ B h = h.1
-at_letter l v σ C h = h.2
-at_letter l v σ D h = h.3
+at_letter : (w : ℕ) (l : Letters) (v : Choice) (σ : ℕ → EbType) (x : Letter) → rank x ≤ w → At w l v σ → σ (letter l x) ≡ chosen v x
+at_letter w l v σ A r h = h.0 (omega (arith, r))
+at_letter w l v σ B r h = h.1 (omega (arith, r))
+at_letter w l v σ C r h = h.2 (omega (arith, r))
+at_letter w l v σ D r h = h.3 (omega (arith, r))
 
 -- what is known of what was found
 abbrev Found_as : Claim → Found → Sort → Claim
 Found_as G f s σ = G σ × (sort_at σ f ≡ s)
 
-expressed : {types : List EbType} (h k : Generated) (n : ℕ) (t : EbType) (G : Claim) → Grows types h k G (λ σ. G σ × (σ n ≡ t)) → Grows types h k G (Found_as G (Expression n) (expression t))
-expressed h k n t G a = weaker h k G (λ σ. G σ × (σ n ≡ t)) (Found_as G (Expression n) (expression t)) (λ σ e. (e.0, ap expression e.1)) a
-
--- a new number by one that is new as well
-twice : {types : List EbType} (h k m : Generated) (G E F : Claim) → Grows types h k G (λ σ. G σ × E σ) → Grows types k m (λ σ. G σ × E σ) (λ σ. (G σ × E σ) × F σ) → Grows types h m G (λ σ. G σ × F σ)
-twice h k m G E F a b =
-    weaker h m G (λ σ. (G σ × E σ) × F σ) (λ σ. G σ × F σ) (λ σ e. (e.0.0, e.1))
-    (then h k m G (λ σ. G σ × E σ) (λ σ. (G σ × E σ) × F σ) a b)
-
-build_complete : {types : List EbType} (l : Letters) (v : Choice) (q : Pattern) (h : Generated) (G : Claim) → ((σ : ℕ → EbType) → G σ → At l v σ) → Grows types h (build l q h).1 G (Found_as G (build l q h).0 (sort v q))
-build_complete l v p.Predicate h G at = stays h G (Found_as G Predicate predicate) (λ σ has e. (e, refl))
-build_complete l v p.Integer h G at = expressed h (g.integer h).1 h.next type.integer G (news eq.Integer type.integer h G (λ σ e i. i))
-build_complete l v p.Boolean h G at = expressed h (g.boolean h).1 h.next type.boolean G (news eq.Boolean type.boolean h G (λ σ e i. i))
-build_complete l v (p.Type x) h G at = stays h G (Found_as G (Expression (letter l x)) (expression (chosen v x))) (λ σ has e. (e, ap expression (at_letter l v σ x (at σ e))))
-build_complete l v (p.Pair x y) h G at =
-    expressed h (g.product (letter l x) (letter l y) h).1 h.next (type.product (chosen v x) (chosen v y)) G
-    (new_product (letter l x) (letter l y) (chosen v x) (chosen v y) h G (λ σ e. at_letter l v σ x (at σ e)) (λ σ e. at_letter l v σ y (at σ e)))
-build_complete l v p.Integers h G at =
-    let q = g.integer h in let r = g.power q.0 q.1 in
-    expressed h r.1 r.0 (type.power type.integer) G
-    (twice h q.1 r.1 G (λ σ. σ q.0 ≡ type.integer) (λ σ. σ r.0 ≡ type.power type.integer)
-    (news eq.Integer type.integer h G (λ σ e i. i)) (new_power q.0 type.integer q.1 (λ σ. G σ × (σ q.0 ≡ type.integer)) (λ σ e. e.1)))
-build_complete l v p.Booleans h G at =
-    let q = g.boolean h in let r = g.power q.0 q.1 in
-    expressed h r.1 r.0 (type.power type.boolean) G
-    (twice h q.1 r.1 G (λ σ. σ q.0 ≡ type.boolean) (λ σ. σ r.0 ≡ type.power type.boolean)
-    (news eq.Boolean type.boolean h G (λ σ e i. i)) (new_power q.0 type.boolean q.1 (λ σ. G σ × (σ q.0 ≡ type.boolean)) (λ σ e. e.1)))
-build_complete l v (p.Atoms c) h G at =
-    let q = g.carrier c h in let r = g.power q.0 q.1 in
-    expressed h r.1 r.0 (type.power (type.carrier c)) G
-    (twice h q.1 r.1 G (λ σ. σ q.0 ≡ type.carrier c) (λ σ. σ r.0 ≡ type.power (type.carrier c))
-    (news (λ n. eq.Carrier n c) (type.carrier c) h G (λ σ e i. i)) (new_power q.0 (type.carrier c) q.1 (λ σ. G σ × (σ q.0 ≡ type.carrier c)) (λ σ e. e.1)))
-build_complete l v (p.Set x) h G at =
-    expressed h (g.power (letter l x) h).1 h.next (type.power (chosen v x)) G (new_power (letter l x) (chosen v x) h G (λ σ e. at_letter l v σ x (at σ e)))
-build_complete l v (p.Sets x) h G at =
-    let t = type.power (chosen v x) in
-    let q = g.power (letter l x) h in let r = g.power q.0 q.1 in
-    expressed h r.1 r.0 (type.power t) G
-    (twice h q.1 r.1 G (λ σ. σ q.0 ≡ t) (λ σ. σ r.0 ≡ type.power t)
-    (new_power (letter l x) (chosen v x) h G (λ σ e. at_letter l v σ x (at σ e))) (new_power q.0 t q.1 (λ σ. G σ × (σ q.0 ≡ t)) (λ σ e. e.1)))
-build_complete l v (p.Relation x y) h G at =
-    let q = g.relation (letter l x) (letter l y) h in
-    expressed h q.1 q.0 (type.power (type.product (chosen v x) (chosen v y))) G
-    (new_relation (letter l x) (letter l y) (chosen v x) (chosen v y) h G (λ σ e. at_letter l v σ x (at σ e)) (λ σ e. at_letter l v σ y (at σ e)))
-build_complete l v (p.Relations x y) h G at =
-    let t = type.power (type.product (chosen v x) (chosen v y)) in
-    let q = g.relation (letter l x) (letter l y) h in let r = g.power q.0 q.1 in
-    expressed h r.1 r.0 (type.power t) G
-    (twice h q.1 r.1 G (λ σ. σ q.0 ≡ t) (λ σ. σ r.0 ≡ type.power t)
-    (new_relation (letter l x) (letter l y) (chosen v x) (chosen v y) h G (λ σ e. at_letter l v σ x (at σ e)) (λ σ e. at_letter l v σ y (at σ e)))
-    (new_power q.0 t q.1 (λ σ. G σ × (σ q.0 ≡ t)) (λ σ e. e.1)))
-build_complete l v p.ToPairs h G at =
-    let t = type.product v.for_b v.for_c in
-    let q = g.product l.b l.c h in let r = g.relation l.a q.0 q.1 in
-    expressed h r.1 r.0 (type.power (type.product v.for_a t)) G
-    (twice h q.1 r.1 G (λ σ. σ q.0 ≡ t) (λ σ. σ r.0 ≡ type.power (type.product v.for_a t))
-    (new_product l.b l.c v.for_b v.for_c h G (λ σ e. (at σ e).1) (λ σ e. (at σ e).2))
-    (new_relation l.a q.0 v.for_a t q.1 (λ σ. G σ × (σ q.0 ≡ t)) (λ σ e. (at σ e.0).0) (λ σ e. e.1)))
-build_complete l v p.BetweenPairs h G at =
-    let s = type.product v.for_a v.for_b in let t = type.product v.for_c v.for_d in
-    let q = g.product l.a l.b h in let r = g.product l.c l.d q.1 in let w = g.relation q.0 r.0 r.1 in
-    let E : Claim = λ σ. G σ × (σ q.0 ≡ s) in
-    expressed h w.1 w.0 (type.power (type.product s t)) G
-    (twice h q.1 w.1 G (λ σ. σ q.0 ≡ s) (λ σ. σ w.0 ≡ type.power (type.product s t))
-    (new_product l.a l.b v.for_a v.for_b h G (λ σ e. (at σ e).0) (λ σ e. (at σ e).1))
-    (twice q.1 r.1 w.1 E (λ σ. σ r.0 ≡ t) (λ σ. σ w.0 ≡ type.power (type.product s t))
-    (new_product l.c l.d v.for_c v.for_d q.1 E (λ σ e. (at σ e.0).2) (λ σ e. (at σ e.0).3))
-    (new_relation q.0 r.0 s t r.1 (λ σ. E σ × (σ r.0 ≡ t)) (λ σ e. e.0.1) (λ σ e. e.1))))
-build_complete l v p.ToFirst h G at =
-    let t = type.product v.for_a v.for_b in
-    let q = g.product l.a l.b h in let r = g.relation q.0 l.a q.1 in
-    expressed h r.1 r.0 (type.power (type.product t v.for_a)) G
-    (twice h q.1 r.1 G (λ σ. σ q.0 ≡ t) (λ σ. σ r.0 ≡ type.power (type.product t v.for_a))
-    (new_product l.a l.b v.for_a v.for_b h G (λ σ e. (at σ e).0) (λ σ e. (at σ e).1))
-    (new_relation q.0 l.a t v.for_a q.1 (λ σ. G σ × (σ q.0 ≡ t)) (λ σ e. e.1) (λ σ e. (at σ e.0).0)))
-build_complete l v p.ToSecond h G at =
-    let t = type.product v.for_a v.for_b in
-    let q = g.product l.a l.b h in let r = g.relation q.0 l.b q.1 in
-    expressed h r.1 r.0 (type.power (type.product t v.for_b)) G
-    (twice h q.1 r.1 G (λ σ. σ q.0 ≡ t) (λ σ. σ r.0 ≡ type.power (type.product t v.for_b))
-    (new_product l.a l.b v.for_a v.for_b h G (λ σ e. (at σ e).0) (λ σ e. (at σ e).1))
-    (new_relation q.0 l.b t v.for_b q.1 (λ σ. G σ × (σ q.0 ≡ t)) (λ σ e. e.1) (λ σ e. (at σ e.0).1)))
-
 expression_is : (t u : EbType) → expression t ≡ expression u → t ≡ u
 expression_is t u e = cc
 
-same_complete : {types : List EbType} (a f : Found) (s : Sort) (h : Generated) (G : Claim) → ((σ : ℕ → EbType) → G σ → sort_at σ a ≡ s) → ((σ : ℕ → EbType) → G σ → sort_at σ f ≡ s) → Grows types h (same a f h) G G
-same_complete Predicate Predicate s h G x y = stays h G G (λ σ has e. e)
-same_complete (Expression k) (Expression m) s h G x y = puts (eq.Same k m) h G (λ σ e. expression_is (σ k) (σ m) (x σ e ∙ sym (y σ e)))
-same_complete Predicate (Expression k) s h G x y = never h (contradict k h) G G refl (λ σ e. let c : predicate ≡ expression (σ k) = x σ e ∙ sym (y σ e) in absurd cc)
-same_complete (Expression k) Predicate s h G x y = never h (contradict k h) G G refl (λ σ e. let c : expression (σ k) ≡ predicate = x σ e ∙ sym (y σ e) in absurd cc)
+no_sort : (t : EbType) → predicate ≡ expression t → ⊥
+no_sort t e = absurd cc
 
-fit_complete : {types : List EbType} (l : Letters) (v : Choice) (q : Pattern) (f : Found) (h : Generated) (G : Claim) → ((σ : ℕ → EbType) → G σ → At l v σ) → ((σ : ℕ → EbType) → G σ → sort_at σ f ≡ sort v q) → Grows types h (fit l q f h) G G
-fit_complete l v q f h G at is =
-    let r = build l q h in
-    let F = Found_as G r.0 (sort v q) in
-    weaker h (fit l q f h) G F G (λ σ e. e.0)
-    (then h r.1 (fit l q f h) G F F (build_complete l v q h G at) (same_complete r.0 f (sort v q) r.1 F (λ σ e. e.1) (λ σ e. is σ e.0)))
+state_complete : {types : List EbType} (w : ℕ) (l : Letters) (v : Choice) (q : Pattern) (k : ℕ) (h : Generated) (G : Claim) → width q ≤ w → ((σ : ℕ → EbType) → G σ → At w l v σ) → ((σ : ℕ → EbType) → G σ → expression (σ k) ≡ sort v q) → Grows types h (state l q k h) G G
+state_complete w l v p.Predicate k h G r at is = never h (contradict k h) G G refl (λ σ e. no_sort (σ k) (sym (is σ e)))
+state_complete w l v p.Integer k h G r at is = puts (eq.Integer k) h G (λ σ e. expression_is (σ k) type.integer (is σ e))
+state_complete w l v p.Boolean k h G r at is = puts (eq.Boolean k) h G (λ σ e. expression_is (σ k) type.boolean (is σ e))
+state_complete w l v (p.Type x) k h G r at is = puts (eq.Same k (letter l x)) h G (λ σ e. expression_is (σ k) (chosen v x) (is σ e) ∙ sym (at_letter w l v σ x r (at σ e)))
+state_complete w l v (p.Pair x y) k h G r at is =
+    puts (eq.Product k (letter l x) (letter l y)) h G (λ σ e.
+    expression_is (σ k) (type.product (chosen v x) (chosen v y)) (is σ e)
+    ∙ (ap (λ z. type.product z (chosen v y)) (sym (at_letter w l v σ x (omega (arith, r)) (at σ e))) ∙ ap (type.product (σ (letter l x))) (sym (at_letter w l v σ y (omega (arith, r)) (at σ e)))))
+state_complete w l v p.Integers k h G r at is =
+    let q = g.integer h in let E : Claim = λ σ. σ q.0 ≡ type.integer in
+    inner h q.1 (put (eq.Power k q.0) q.1) G E (news eq.Integer type.integer h G (λ σ e i. i))
+    (power_put k q.0 type.integer q.1 (λ σ. G σ × E σ) (λ σ e. expression_is (σ k) (type.power type.integer) (is σ e.0)) (λ σ e. e.1))
+state_complete w l v p.Booleans k h G r at is =
+    let q = g.boolean h in let E : Claim = λ σ. σ q.0 ≡ type.boolean in
+    inner h q.1 (put (eq.Power k q.0) q.1) G E (news eq.Boolean type.boolean h G (λ σ e i. i))
+    (power_put k q.0 type.boolean q.1 (λ σ. G σ × E σ) (λ σ e. expression_is (σ k) (type.power type.boolean) (is σ e.0)) (λ σ e. e.1))
+state_complete w l v (p.Atoms c) k h G r at is =
+    let q = g.carrier c h in let E : Claim = λ σ. σ q.0 ≡ type.carrier c in
+    inner h q.1 (put (eq.Power k q.0) q.1) G E (news (λ n. eq.Carrier n c) (type.carrier c) h G (λ σ e i. i))
+    (power_put k q.0 (type.carrier c) q.1 (λ σ. G σ × E σ) (λ σ e. expression_is (σ k) (type.power (type.carrier c)) (is σ e.0)) (λ σ e. e.1))
+state_complete w l v (p.Set x) k h G r at is =
+    power_put k (letter l x) (chosen v x) h G (λ σ e. expression_is (σ k) (type.power (chosen v x)) (is σ e)) (λ σ e. at_letter w l v σ x r (at σ e))
+state_complete w l v (p.Sets x) k h G r at is =
+    let t = type.power (chosen v x) in
+    let q = g.power (letter l x) h in let E : Claim = λ σ. σ q.0 ≡ t in
+    inner h q.1 (put (eq.Power k q.0) q.1) G E (new_power (letter l x) (chosen v x) h G (λ σ e. at_letter w l v σ x r (at σ e)))
+    (power_put k q.0 t q.1 (λ σ. G σ × E σ) (λ σ e. expression_is (σ k) (type.power t) (is σ e.0)) (λ σ e. e.1))
+state_complete w l v (p.Relation x y) k h G r at is =
+    relation_put k (letter l x) (letter l y) (chosen v x) (chosen v y) h G (λ σ e. expression_is (σ k) (type.power (type.product (chosen v x) (chosen v y))) (is σ e))
+    (λ σ e. at_letter w l v σ x (omega (arith, r)) (at σ e)) (λ σ e. at_letter w l v σ y (omega (arith, r)) (at σ e))
+state_complete w l v (p.Relations x y) k h G r at is =
+    let t = type.power (type.product (chosen v x) (chosen v y)) in
+    let n = h.next in let f = g.after_fresh h in let m = put (eq.Power k n) f in
+    let E : Claim = λ σ. σ n ≡ t in let F : Claim = λ σ. G σ × E σ in
+    inner h f (g.state_relation n (letter l x) (letter l y) m) G E (fresh t h G)
+    (then f m (g.state_relation n (letter l x) (letter l y) m) F F F
+    (power_put k n t f F (λ σ e. expression_is (σ k) (type.power t) (is σ e.0)) (λ σ e. e.1))
+    (relation_put n (letter l x) (letter l y) (chosen v x) (chosen v y) m F (λ σ e. e.1) (λ σ e. at_letter w l v σ x (omega (arith, r)) (at σ e.0)) (λ σ e. at_letter w l v σ y (omega (arith, r)) (at σ e.0))))
+state_complete w l v p.ToPairs k h G r at is =
+    let t = type.product v.for_b v.for_c in
+    let q = g.product l.b l.c h in let E : Claim = λ σ. σ q.0 ≡ t in
+    inner h q.1 (g.state_relation k l.a q.0 q.1) G E
+    (new_product l.b l.c v.for_b v.for_c h G (λ σ e. at_letter w l v σ B (omega (arith, r)) (at σ e)) (λ σ e. at_letter w l v σ C (omega (arith, r)) (at σ e)))
+    (relation_put k l.a q.0 v.for_a t q.1 (λ σ. G σ × E σ) (λ σ e. expression_is (σ k) (type.power (type.product v.for_a t)) (is σ e.0)) (λ σ e. at_letter w l v σ A (omega (arith, r)) (at σ e.0)) (λ σ e. e.1))
+state_complete w l v p.BetweenPairs k h G r at is =
+    let s = type.product v.for_a v.for_b in let t = type.product v.for_c v.for_d in
+    let q = g.product l.a l.b h in let u = g.product l.c l.d q.1 in
+    let E : Claim = λ σ. σ q.0 ≡ s in let F : Claim = λ σ. G σ × E σ in let I : Claim = λ σ. σ u.0 ≡ t in
+    inner h q.1 (g.state_relation k q.0 u.0 u.1) G E
+    (new_product l.a l.b v.for_a v.for_b h G (λ σ e. at_letter w l v σ A (omega (arith, r)) (at σ e)) (λ σ e. at_letter w l v σ B (omega (arith, r)) (at σ e)))
+    (inner q.1 u.1 (g.state_relation k q.0 u.0 u.1) F I
+    (new_product l.c l.d v.for_c v.for_d q.1 F (λ σ e. at_letter w l v σ C (omega (arith, r)) (at σ e.0)) (λ σ e. at_letter w l v σ D (omega (arith, r)) (at σ e.0)))
+    (relation_put k q.0 u.0 s t u.1 (λ σ. F σ × I σ) (λ σ e. expression_is (σ k) (type.power (type.product s t)) (is σ e.0.0)) (λ σ e. e.0.1) (λ σ e. e.1)))
+state_complete w l v p.ToFirst k h G r at is =
+    let t = type.product v.for_a v.for_b in
+    let q = g.product l.a l.b h in let E : Claim = λ σ. σ q.0 ≡ t in
+    inner h q.1 (g.state_relation k q.0 l.a q.1) G E
+    (new_product l.a l.b v.for_a v.for_b h G (λ σ e. at_letter w l v σ A (omega (arith, r)) (at σ e)) (λ σ e. at_letter w l v σ B (omega (arith, r)) (at σ e)))
+    (relation_put k q.0 l.a t v.for_a q.1 (λ σ. G σ × E σ) (λ σ e. expression_is (σ k) (type.power (type.product t v.for_a)) (is σ e.0)) (λ σ e. e.1) (λ σ e. at_letter w l v σ A (omega (arith, r)) (at σ e.0)))
+state_complete w l v p.ToSecond k h G r at is =
+    let t = type.product v.for_a v.for_b in
+    let q = g.product l.a l.b h in let E : Claim = λ σ. σ q.0 ≡ t in
+    inner h q.1 (g.state_relation k q.0 l.b q.1) G E
+    (new_product l.a l.b v.for_a v.for_b h G (λ σ e. at_letter w l v σ A (omega (arith, r)) (at σ e)) (λ σ e. at_letter w l v σ B (omega (arith, r)) (at σ e)))
+    (relation_put k q.0 l.b t v.for_b q.1 (λ σ. G σ × E σ) (λ σ e. expression_is (σ k) (type.power (type.product t v.for_b)) (is σ e.0)) (λ σ e. e.1) (λ σ e. at_letter w l v σ B (omega (arith, r)) (at σ e.0)))
+
+stated_complete : {types : List EbType} (w : ℕ) (l : Letters) (v : Choice) (q : Pattern) (t : EbType) (h : Generated) (G : Claim) → width q ≤ w → ((σ : ℕ → EbType) → G σ → At w l v σ) → sort v q ≡ expression t
+    → Grows types h (g.stated l q h).1 G (Found_as G (g.stated l q h).0 (sort v q))
+stated_complete w l v q t h G r at is =
+    let n = h.next in let f = g.after_fresh h in let m = state l q n f in
+    let F : Claim = λ σ. G σ × (σ n ≡ t) in
+    weaker h m G F (Found_as G (Expression n) (sort v q)) (λ σ e. (e.0, ap expression e.1 ∙ sym is))
+    (then h f m G F F (fresh t h G) (state_complete w l v q n f F r (λ σ e. at σ e.0) (λ σ e. ap expression e.1 ∙ sym is)))
+
+build_complete : {types : List EbType} (w : ℕ) (l : Letters) (v : Choice) (q : Pattern) (h : Generated) (G : Claim) → width q ≤ w → ((σ : ℕ → EbType) → G σ → At w l v σ) → Grows types h (build l q h).1 G (Found_as G (build l q h).0 (sort v q))
+build_complete w l v p.Predicate h G r at = stays h G (Found_as G Predicate predicate) (λ σ has e. (e, refl))
+build_complete w l v (p.Type x) h G r at = stays h G (Found_as G (Expression (letter l x)) (expression (chosen v x))) (λ σ has e. (e, ap expression (at_letter w l v σ x r (at σ e))))
+build_complete w l v p.Integer h G r at = stated_complete w l v p.Integer type.integer h G r at refl
+build_complete w l v p.Boolean h G r at = stated_complete w l v p.Boolean type.boolean h G r at refl
+build_complete w l v (p.Pair x y) h G r at = stated_complete w l v (p.Pair x y) (type.product (chosen v x) (chosen v y)) h G r at refl
+build_complete w l v p.Integers h G r at = stated_complete w l v p.Integers (type.power type.integer) h G r at refl
+build_complete w l v p.Booleans h G r at = stated_complete w l v p.Booleans (type.power type.boolean) h G r at refl
+build_complete w l v (p.Atoms c) h G r at = stated_complete w l v (p.Atoms c) (type.power (type.carrier c)) h G r at refl
+build_complete w l v (p.Set x) h G r at = stated_complete w l v (p.Set x) (type.power (chosen v x)) h G r at refl
+build_complete w l v (p.Sets x) h G r at = stated_complete w l v (p.Sets x) (type.power (type.power (chosen v x))) h G r at refl
+build_complete w l v (p.Relation x y) h G r at = stated_complete w l v (p.Relation x y) (type.power (type.product (chosen v x) (chosen v y))) h G r at refl
+build_complete w l v (p.Relations x y) h G r at = stated_complete w l v (p.Relations x y) (type.power (type.power (type.product (chosen v x) (chosen v y)))) h G r at refl
+build_complete w l v p.ToPairs h G r at = stated_complete w l v p.ToPairs (type.power (type.product v.for_a (type.product v.for_b v.for_c))) h G r at refl
+build_complete w l v p.BetweenPairs h G r at = stated_complete w l v p.BetweenPairs (type.power (type.product (type.product v.for_a v.for_b) (type.product v.for_c v.for_d))) h G r at refl
+build_complete w l v p.ToFirst h G r at = stated_complete w l v p.ToFirst (type.power (type.product (type.product v.for_a v.for_b) v.for_a)) h G r at refl
+build_complete w l v p.ToSecond h G r at = stated_complete w l v p.ToSecond (type.power (type.product (type.product v.for_a v.for_b) v.for_b)) h G r at refl
+
+none_complete : {types : List EbType} (v : Choice) (q : Pattern) (h : Generated) (G : Claim) → ((σ : ℕ → EbType) → G σ → predicate ≡ sort v q) → Grows types h (g.no_expression q h) G G
+none_complete v p.Predicate h G is = stays h G G (λ σ has e. e)
+none_complete v (p.Type x) h G is = never h (contradict 0 h) G G refl (λ σ e. no_sort (chosen v x) (is σ e))
+none_complete v p.Integer h G is = never h (contradict 0 h) G G refl (λ σ e. no_sort type.integer (is σ e))
+none_complete v p.Boolean h G is = never h (contradict 0 h) G G refl (λ σ e. no_sort type.boolean (is σ e))
+none_complete v (p.Pair x y) h G is = never h (contradict 0 h) G G refl (λ σ e. no_sort (type.product (chosen v x) (chosen v y)) (is σ e))
+none_complete v p.Integers h G is = never h (contradict 0 h) G G refl (λ σ e. no_sort (type.power type.integer) (is σ e))
+none_complete v p.Booleans h G is = never h (contradict 0 h) G G refl (λ σ e. no_sort (type.power type.boolean) (is σ e))
+none_complete v (p.Atoms c) h G is = never h (contradict 0 h) G G refl (λ σ e. no_sort (type.power (type.carrier c)) (is σ e))
+none_complete v (p.Set x) h G is = never h (contradict 0 h) G G refl (λ σ e. no_sort (type.power (chosen v x)) (is σ e))
+none_complete v (p.Sets x) h G is = never h (contradict 0 h) G G refl (λ σ e. no_sort (type.power (type.power (chosen v x))) (is σ e))
+none_complete v (p.Relation x y) h G is = never h (contradict 0 h) G G refl (λ σ e. no_sort (type.power (type.product (chosen v x) (chosen v y))) (is σ e))
+none_complete v (p.Relations x y) h G is = never h (contradict 0 h) G G refl (λ σ e. no_sort (type.power (type.power (type.product (chosen v x) (chosen v y)))) (is σ e))
+none_complete v p.ToPairs h G is = never h (contradict 0 h) G G refl (λ σ e. no_sort (type.power (type.product v.for_a (type.product v.for_b v.for_c))) (is σ e))
+none_complete v p.BetweenPairs h G is = never h (contradict 0 h) G G refl (λ σ e. no_sort (type.power (type.product (type.product v.for_a v.for_b) (type.product v.for_c v.for_d))) (is σ e))
+none_complete v p.ToFirst h G is = never h (contradict 0 h) G G refl (λ σ e. no_sort (type.power (type.product (type.product v.for_a v.for_b) v.for_a)) (is σ e))
+none_complete v p.ToSecond h G is = never h (contradict 0 h) G G refl (λ σ e. no_sort (type.power (type.product (type.product v.for_a v.for_b) v.for_b)) (is σ e))
+
+fit_complete : {types : List EbType} (w : ℕ) (l : Letters) (v : Choice) (q : Pattern) (f : Found) (h : Generated) (G : Claim) → width q ≤ w → ((σ : ℕ → EbType) → G σ → At w l v σ) → ((σ : ℕ → EbType) → G σ → sort_at σ f ≡ sort v q) → Grows types h (fit l q f h) G G
+fit_complete w l v q Predicate h G r at is = none_complete v q h G is
+fit_complete w l v q (Expression k) h G r at is = state_complete w l v q k h G r at is
 
 heads : (a b : Sort) (xs ys : List Sort) → a ∷ xs ≡ b ∷ ys → a ≡ b
 heads a b xs ys e = cc
@@ -147,32 +169,86 @@ heads a b xs ys e = cc
 tails : (a b : Sort) (xs ys : List Sort) → a ∷ xs ≡ b ∷ ys → xs ≡ ys
 tails a b xs ys e = cc
 
-fits_complete : {types : List EbType} (l : Letters) (v : Choice) (qs : List Pattern) (fs : List Found) (h : Generated) (G : Claim) → ((σ : ℕ → EbType) → G σ → At l v σ) → ((σ : ℕ → EbType) → G σ → map (sort_at σ) fs ≡ map (sort v) qs) → Grows types h (fits l qs fs h) G G
-fits_complete l v [] [] h G at is = stays h G G (λ σ has e. e)
-fits_complete l v [] (f ∷ fs) h G at is = never h (contradict 0 h) G G refl (λ σ e. let c : sort_at σ f ∷ map (sort_at σ) fs ≡ [] = is σ e in absurd cc)
-fits_complete l v (q ∷ qs) [] h G at is = never h (contradict 0 h) G G refl (λ σ e. let c : [] ≡ sort v q ∷ map (sort v) qs = is σ e in absurd cc)
-fits_complete l v (q ∷ qs) (f ∷ fs) h G at is =
+fits_complete : {types : List EbType} (w : ℕ) (l : Letters) (v : Choice) (qs : List Pattern) (whole : Pattern) (fs : List Found) (h : Generated) (G : Claim) → widest qs whole ≤ w → ((σ : ℕ → EbType) → G σ → At w l v σ) → ((σ : ℕ → EbType) → G σ → map (sort_at σ) fs ≡ map (sort v) qs) → Grows types h (fits l qs fs h) G G
+fits_complete w l v [] whole [] h G r at is = stays h G G (λ σ has e. e)
+fits_complete w l v [] whole (f ∷ fs) h G r at is = never h (contradict 0 h) G G refl (λ σ e. let c : sort_at σ f ∷ map (sort_at σ) fs ≡ [] = is σ e in absurd cc)
+fits_complete w l v (q ∷ qs) whole [] h G r at is = never h (contradict 0 h) G G refl (λ σ e. let c : [] ≡ sort v q ∷ map (sort v) qs = is σ e in absurd cc)
+fits_complete w l v (q ∷ qs) whole (f ∷ fs) h G r at is =
     then h (fit l q f h) (fits l qs fs (fit l q f h)) G G G
-    (fit_complete l v q f h G at (λ σ e. heads (sort_at σ f) (sort v q) (map (sort_at σ) fs) (map (sort v) qs) (is σ e)))
-    (fits_complete l v qs fs (fit l q f h) G at (λ σ e. tails (sort_at σ f) (sort v q) (map (sort_at σ) fs) (map (sort v) qs) (is σ e)))
+    (fit_complete w l v q f h G (omega (arith, r)) at (λ σ e. heads (sort_at σ f) (sort v q) (map (sort_at σ) fs) (map (sort v) qs) (is σ e)))
+    (fits_complete w l v qs whole fs (fit l q f h) G (omega (arith, r)) at (λ σ e. tails (sort_at σ f) (sort v q) (map (sort_at σ) fs) (map (sort v) qs) (is σ e)))
 
-letters_complete : {types : List EbType} (v : Choice) (h : Generated) (G : Claim) → Grows types h (after_letters h) G (λ σ. G σ × At (letters_at h.next) v σ)
-letters_complete v h G = record {
+rank_few : (x : Letter) → rank x ≤ 4
+rank_few A = omega arith
+rank_few B = omega arith
+rank_few C = omega arith
+rank_few D = omega arith
+
+width_few : (q : Pattern) → width q ≤ 4
+width_few p.Predicate = omega arith
+width_few p.Integer = omega arith
+width_few p.Boolean = omega arith
+width_few p.Integers = omega arith
+width_few p.Booleans = omega arith
+width_few (p.Atoms s) = omega arith
+width_few (p.Type x) = rank_few x
+width_few (p.Set x) = rank_few x
+width_few (p.Sets x) = rank_few x
+width_few (p.Pair x y) = omega (arith, rank_few x, rank_few y)
+width_few (p.Relation x y) = omega (arith, rank_few x, rank_few y)
+width_few (p.Relations x y) = omega (arith, rank_few x, rank_few y)
+width_few p.ToPairs = omega arith
+width_few p.BetweenPairs = omega arith
+width_few p.ToFirst = omega arith
+width_few p.ToSecond = omega arith
+
+widest_few : (qs : List Pattern) (whole : Pattern) → widest qs whole ≤ 4
+widest_few [] whole = width_few whole
+widest_few (q ∷ qs) whole = omega (arith, width_few q, widest_few qs whole)
+
+widest_whole : (qs : List Pattern) (whole : Pattern) → width whole ≤ widest qs whole
+widest_whole [] whole = omega arith
+widest_whole (q ∷ qs) whole = omega (arith, widest_whole qs whole)
+
+letters_complete : {types : List EbType} (w : ℕ) (v : Choice) (h : Generated) (G : Claim) → w ≤ 4 → Grows types h (after_letters w h) G (λ σ. G σ × At w (letters_at h.next) v σ)
+letters_complete zero v h G r = record {
+  more = [];
+  next = omega arith;
+  solves = λ σ has more given fit. (fit, (given, ((λ z. absurd (omega (arith, z))), (λ z. absurd (omega (arith, z))), (λ z. absurd (omega (arith, z))), (λ z. absurd (omega (arith, z))))));
+}
+letters_complete (suc zero) v h G r = record {
+  more = v.for_a ∷ [];
+  next = omega arith;
+  solves = λ σ has more given fit. (fit, (given, ((λ z. more.0), (λ z. absurd (omega (arith, z))), (λ z. absurd (omega (arith, z))), (λ z. absurd (omega (arith, z))))));
+}
+letters_complete (suc (suc zero)) v h G r = record {
+  more = v.for_a ∷ v.for_b ∷ [];
+  next = omega arith;
+  solves = λ σ has more given fit. (fit, (given, ((λ z. more.0), (λ z. more.1.0), (λ z. absurd (omega (arith, z))), (λ z. absurd (omega (arith, z))))));
+}
+letters_complete (suc (suc (suc zero))) v h G r = record {
+  more = v.for_a ∷ v.for_b ∷ v.for_c ∷ [];
+  next = omega arith;
+  solves = λ σ has more given fit. (fit, (given, ((λ z. more.0), (λ z. more.1.0), (λ z. more.1.1.0), (λ z. absurd (omega (arith, z))))));
+}
+letters_complete (suc (suc (suc (suc zero)))) v h G r = record {
   more = v.for_a ∷ v.for_b ∷ v.for_c ∷ v.for_d ∷ [];
   next = omega arith;
-  solves = λ σ has more given fit. (fit, (given, (more.0, more.1.0, more.1.1.0, more.1.1.1.0)));
+  solves = λ σ has more given fit. (fit, (given, ((λ z. more.0), (λ z. more.1.0), (λ z. more.1.1.0), (λ z. more.1.1.1.0))));
 }
+letters_complete (suc (suc (suc (suc (suc w))))) v h G r = absurd (omega (arith, r))
 
 row_complete : {types : List EbType} (v : Choice) (qs : List Pattern) (whole : Pattern) (fs : List Found) (h : Generated) (G : Claim) → ((σ : ℕ → EbType) → G σ → map (sort_at σ) fs ≡ map (sort v) qs) → Grows types h (row qs whole fs h).1 G (Found_as G (row qs whole fs h).0 (sort v whole))
 row_complete v qs whole fs h G is =
+    let w = widest qs whole in
     let l = letters_at h.next in
-    let E : Claim = λ σ. G σ × At l v σ in
-    let m = after_letters h in
+    let E : Claim = λ σ. G σ × At w l v σ in
+    let m = after_letters w h in
     let k = fits l qs fs m in
-    let w = row qs whole fs h in
-    weaker h w.1 G (Found_as E w.0 (sort v whole)) (Found_as G w.0 (sort v whole)) (λ σ e. (e.0.0, e.1))
-    (then h m w.1 G E (Found_as E w.0 (sort v whole)) (letters_complete v h G)
-    (then m k w.1 E E (Found_as E w.0 (sort v whole)) (fits_complete l v qs fs m E (λ σ e. e.1) (λ σ e. is σ e.0)) (build_complete l v whole k E (λ σ e. e.1))))
+    let o = row qs whole fs h in
+    weaker h o.1 G (Found_as E o.0 (sort v whole)) (Found_as G o.0 (sort v whole)) (λ σ e. (e.0.0, e.1))
+    (then h m o.1 G E (Found_as E o.0 (sort v whole)) (letters_complete w v h G (widest_few qs whole))
+    (then m k o.1 E E (Found_as E o.0 (sort v whole)) (fits_complete w l v qs whole fs m E (omega arith) (λ σ e. e.1) (λ σ e. is σ e.0)) (build_complete w l v whole k E (widest_whole qs whole) (λ σ e. e.1))))
 
 checked_complete : {types : List EbType} (asked k : ℕ) (t : EbType) (h : Generated) (G : Claim) → length types ≡ asked → slice_get types k ≡ Some t → Grows types h (checked asked k h) G (λ σ. G σ × (σ k ≡ t))
 checked_complete {types} asked k t h G count e =

@@ -6,15 +6,15 @@ use Rattle.std.proofs.lemmas.List.{take_all}
 use Rattle.std.specs.Prelude.{⊤}
 use Rattle.eb_value.specs.declared.types.EbType.{EbType}
 use Rattle.eb_value.specs.Types.{integer}
-use Rattle.eb_term.specs.declared.units.EbUnit.{EbUnit}
+use Rattle.eb_syntax.specs.declared.units.EbUnit.{EbUnit}
 use Rattle.eb_scoping.specs.Models.{AreMarked, marked}
 use Rattle.type_equations.specs.declared.equation.Equation.{Equation}
 use Rattle.type_equations.specs.Equations.{Solves, types_below, IsOnlySolution, HaveNone, HaveSeveral}
 use Rattle.eb_infer.specs.declared.generated.Generated.{Generated}
-use Rattle.eb_infer.specs.Generating.{demanded, nothing}
-use Rattle.eb_infer.specs.declared.names.Entry.{Entry}
+use Rattle.eb_infer.specs.steps.Generating.{demanded, nothing}
+use Rattle.eb_infer.specs.declared.entries.Entry.{Entry}
 use Rattle.eb_infer.specs.Models.{Walk, IsOnly, HasNone, HasSeveral, walk, collected, declared, numbers, AreTyped, Typed}
-use Rattle.eb_infer.specs.Equating.{Equated}
+use Rattle.eb_infer.specs.steps.Equating.{Equated}
 use Rattle.eb_infer.proofs.Solving.{length-types_below}
 use Rattle.eb_infer.proofs.Soundness.{all_demanded, all_sound}
 use Rattle.eb_infer.proofs.Extending.{Has, has_front, has_back, has_get}

@@ -7,7 +7,7 @@ use Rattle.type_equations.specs.declared.equation.Equation.{Equation}
 use Rattle.type_equations.specs.declared.equation.Equation.TheVariants as eq
 use Rattle.type_equations.specs.Equations.{Holds}
 use Rattle.eb_infer.specs.declared.generated.Generated.{Generated}
-use Rattle.eb_infer.specs.Generating as g
+use Rattle.eb_infer.specs.steps.Generating as g
 use Rattle.eb_infer.proofs.Solving.{Fit, put_fits}
 
 -- from the number n on these are the types
@@ -80,11 +80,19 @@ pub new_product : {types : List EbType} (j k : ℕ) (s t : EbType) (h : Generate
     → Grows types h (g.product j k h).1 G (λ σ. G σ × (σ (g.product j k h).0 ≡ type.product s t))
 new_product j k s t h G a b = news (λ n. eq.Product n j k) (type.product s t) h G (λ σ given e. e ∙ (ap (λ x. type.product x t) (sym (a σ given)) ∙ ap (type.product (σ j)) (sym (b σ given))))
 
-pub new_relation : {types : List EbType} (j k : ℕ) (s t : EbType) (h : Generated) (G : (ℕ → EbType) → Type 0) → ((σ : ℕ → EbType) → G σ → σ j ≡ s) → ((σ : ℕ → EbType) → G σ → σ k ≡ t)
-    → Grows types h (g.relation j k h).1 G (λ σ. G σ × (σ (g.relation j k h).0 ≡ type.power (type.product s t)))
-new_relation j k s t h G a b =
-    let q = g.product j k h in
-    let F : (ℕ → EbType) → Type 0 = λ σ. G σ × (σ q.0 ≡ type.product s t) in
-    let E : (ℕ → EbType) → Type 0 = λ σ. F σ × (σ (g.relation j k h).0 ≡ type.power (type.product s t)) in
-    weaker h (g.relation j k h).1 G E (λ σ. G σ × (σ (g.relation j k h).0 ≡ type.power (type.product s t))) (λ σ e. (e.0.0, e.1))
-    (then h q.1 (g.relation j k h).1 G F E (new_product j k s t h G a b) (new_power q.0 (type.product s t) q.1 F (λ σ f. f.1)))
+-- a new number by one that is new as well, where nothing of them is kept
+pub inner : {types : List EbType} (h k m : Generated) (G E : (ℕ → EbType) → Type 0) → Grows types h k G (λ σ. G σ × E σ) → Grows types k m (λ σ. G σ × E σ) (λ σ. G σ × E σ) → Grows types h m G G
+inner h k m G E a b =
+    let F : (ℕ → EbType) → Type 0 = λ σ. G σ × E σ in
+    weaker h m G F G (λ σ e. e.0) (then h k m G F F a b)
+
+pub power_put : {types : List EbType} (k m : ℕ) (t : EbType) (h : Generated) (G : (ℕ → EbType) → Type 0) → ((σ : ℕ → EbType) → G σ → σ k ≡ type.power t) → ((σ : ℕ → EbType) → G σ → σ m ≡ t) → Grows types h (g.put (eq.Power k m) h) G G
+power_put k m t h G a b = puts (eq.Power k m) h G (λ σ e. a σ e ∙ ap type.power (sym (b σ e)))
+
+pub relation_put : {types : List EbType} (k i j : ℕ) (s t : EbType) (h : Generated) (G : (ℕ → EbType) → Type 0) → ((σ : ℕ → EbType) → G σ → σ k ≡ type.power (type.product s t)) → ((σ : ℕ → EbType) → G σ → σ i ≡ s) → ((σ : ℕ → EbType) → G σ → σ j ≡ t)
+    → Grows types h (g.state_relation k i j h) G G
+relation_put k i j s t h G is a b =
+    let q = g.product i j h in
+    let E : (ℕ → EbType) → Type 0 = λ σ. σ q.0 ≡ type.product s t in
+    let F : (ℕ → EbType) → Type 0 = λ σ. G σ × E σ in
+    inner h q.1 (g.state_relation k i j h) G E (new_product i j s t h G a b) (power_put k q.0 (type.product s t) q.1 F (λ σ e. is σ e.0) (λ σ e. e.1))

@@ -8,3 +8,4 @@ pub mod Marking
 pub mod Collecting
 pub mod Equations
 pub mod Bounds
+pub mod LayerLaws

@@ -1,9 +1,9 @@
 -- Steps of the walk over a model.
 use Rattle.std.proofs.Common.{◌≡◌, ◌∙◌, ℕ, suc, ◌+◌, ◌<◌, ◌≤◌, List, [], ◌∷◌, length, drop, get_or, sym, ap, subst, arith, add-one, drop-cons}
 use Rattle.std.proofs.lemmas.List.{drop_all}
-use Rattle.eb_term.specs.declared.ast.Ast.{Ast}
-use Rattle.eb_term.specs.declared.ast.Identifier.{Identifier}
-use Rattle.eb_infer.specs.declared.names.Entry.{Entry}
+use Rattle.eb_syntax.specs.declared.ast.Ast.{Ast}
+use Rattle.eb_syntax.specs.declared.ast.Identifier.{Identifier}
+use Rattle.eb_infer.specs.declared.entries.Entry.{Entry}
 use Rattle.eb_infer.specs.Numbering.{Numbered, unknown}
 use Rattle.eb_infer.specs.Models.{Walk, assigned, becomes_equal, owe}
 

@@ -10,7 +10,7 @@ use Rattle.type_equations.specs.declared.equation.Equation.{Equation}
 use Rattle.type_equations.specs.declared.equation.Equation.TheVariants as eq
 use Rattle.type_equations.specs.Equations.{Holds, Solves, types_below}
 use Rattle.eb_infer.specs.declared.generated.Generated.{Generated}
-use Rattle.eb_infer.specs.Generating.{put, contradict}
+use Rattle.eb_infer.specs.steps.Generating.{put, contradict}
 
 abbrev shape_of : EbType → Shape-F Shape EbType
 shape_of t = out-Shape (out-EbType t).shape

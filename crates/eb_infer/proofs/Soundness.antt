@@ -2,25 +2,25 @@
 use Rattle.std.proofs.Common.{◌≡◌, ◌∙◌, ℕ, ◌+◌, Bool, true, false, List, [], ◌∷◌, map, refl, sym, ap, subst, cond, ltb}
 use Rattle.std.proofs.lemmas.Bool.{ltb-true}
 use Rattle.std.specs.Prelude.{Option, Some, None, slice_get, fold, option_map, option_and_then}
-use Rattle.eb_term.specs.declared.ast.Mark.{Mark}
-use Rattle.eb_term.specs.declared.ast.Mark.TheVariants as mark
+use Rattle.eb_syntax.specs.declared.ast.Mark.{Mark}
+use Rattle.eb_syntax.specs.declared.ast.Mark.TheVariants as mark
 use Rattle.eb_value.specs.declared.types.EbType.{EbType}
 use Rattle.eb_value.specs.Types as type
 use Rattle.type_equations.specs.declared.equation.Equation.TheVariants as eq
 use Rattle.type_equations.specs.Equations.{types_below}
-use Rattle.eb_infer.specs.declared.pattern.Letter.{Letter}
-use Rattle.eb_infer.specs.declared.pattern.Letter.TheVariants.{A, B, C, D}
-use Rattle.eb_infer.specs.declared.pattern.Pattern.{Pattern}
-use Rattle.eb_infer.specs.declared.pattern.Pattern.TheVariants as p
+use Rattle.type_table.specs.declared.pattern.Letter.{Letter}
+use Rattle.type_table.specs.declared.pattern.Letter.TheVariants.{A, B, C, D}
+use Rattle.type_table.specs.declared.pattern.Pattern.{Pattern}
+use Rattle.type_table.specs.declared.pattern.Pattern.TheVariants as p
 use Rattle.eb_infer.specs.declared.generated.Found.{Found}
 use Rattle.eb_infer.specs.declared.generated.Found.TheVariants.{Predicate, Expression}
 use Rattle.eb_infer.specs.declared.generated.Letters.{Letters}
 use Rattle.eb_infer.specs.declared.generated.Generated.{Generated}
-use Rattle.eb_infer.specs.Rows.{Sort, predicate, expression, Choice, chosen, sort}
+use Rattle.type_table.specs.Rows.{Sort, predicate, expression, Choice, chosen, sort}
 use Rattle.eb_infer.specs.Numbering.{Numbered, typed, unknown, tuple, made, Parts, none, also}
 use Rattle.eb_infer.specs.Typing.{Group, ungrouped, paired, closed, grouped, tuple_type, HasSort, HaveSorts, ArePredicates}
-use Rattle.eb_infer.specs.Generating as g
-use Rattle.eb_infer.specs.Generating.{put, contradict, letter, build, same, fit, fits, row, gen, gens, checked, paired_with, token, tuple_end, tuple_made, demand, demanded, letters_at, after_letters}
+use Rattle.eb_infer.specs.steps.Generating as g
+use Rattle.eb_infer.specs.steps.Generating.{put, contradict, letter, state, build, fit, fits, row, gen, gens, checked, paired_with, token, tuple_end, tuple_made, demand, demanded, letters_at, after_letters, widest}
 use Rattle.eb_infer.proofs.Solving.{Fit, fits_put, fits_contradict, slice_get-types_below}
 
 -- what was found, where numbers have these types
@@ -44,66 +44,80 @@ power_made σ m h s = fits_put σ (eq.Power h.next m) (g.after_fresh h) s
 product_made : (σ : ℕ → EbType) (j k : ℕ) (h : Generated) → Fit σ (g.product j k h).1 → Fit σ h × (σ (g.product j k h).0 ≡ type.product (σ j) (σ k))
 product_made σ j k h s = fits_put σ (eq.Product h.next j k) (g.after_fresh h) s
 
-relation_made : (σ : ℕ → EbType) (j k : ℕ) (h : Generated) → Fit σ (g.relation j k h).1 → Fit σ h × (σ (g.relation j k h).0 ≡ type.power (type.product (σ j) (σ k)))
-relation_made σ j k h s =
-    let q = g.product j k h in
-    let a = power_made σ q.0 q.1 s in
-    let b = product_made σ j k h a.0 in
+relation_stated : (σ : ℕ → EbType) (k i j : ℕ) (h : Generated) → Fit σ (g.state_relation k i j h) → Fit σ h × (σ k ≡ type.power (type.product (σ i) (σ j)))
+relation_stated σ k i j h s =
+    let q = g.product i j h in
+    let a = fits_put σ (eq.Power k q.0) q.1 s in
+    let b = product_made σ i j h a.0 in
     (b.0, a.1 ∙ ap type.power b.1)
 
-pub build_sound : (σ : ℕ → EbType) (l : Letters) (q : Pattern) (h : Generated) → Fit σ (build l q h).1 → Fit σ h × (sort_at σ (build l q h).0 ≡ sort (choice_at σ l) q)
-build_sound σ l p.Predicate h s = (s, refl)
-build_sound σ l p.Integer h s = let a = fits_put σ (eq.Integer h.next) (g.after_fresh h) s in (a.0, ap expression a.1)
-build_sound σ l p.Boolean h s = let a = fits_put σ (eq.Boolean h.next) (g.after_fresh h) s in (a.0, ap expression a.1)
-build_sound σ l (p.Type x) h s = (s, ap expression (sym (chosen_at σ l x)))
-build_sound σ l (p.Pair x y) h s = let a = product_made σ (letter l x) (letter l y) h s in (a.0, rw (chosen_at σ l x, chosen_at σ l y) (ap expression a.1))
-build_sound σ l p.Integers h s =
-    let a = power_made σ h.next (g.integer h).1 s in let b = fits_put σ (eq.Integer h.next) (g.after_fresh h) a.0 in
+-- what a pattern says of a number
+state_sound : (σ : ℕ → EbType) (l : Letters) (q : Pattern) (k : ℕ) (h : Generated) → Fit σ (state l q k h) → Fit σ h × (expression (σ k) ≡ sort (choice_at σ l) q)
+state_sound σ l p.Predicate k h s = absurd (fits_contradict σ k h s)
+state_sound σ l p.Integer k h s = let a = fits_put σ (eq.Integer k) h s in (a.0, ap expression a.1)
+state_sound σ l p.Boolean k h s = let a = fits_put σ (eq.Boolean k) h s in (a.0, ap expression a.1)
+state_sound σ l (p.Type x) k h s = let a = fits_put σ (eq.Same k (letter l x)) h s in (a.0, ap expression (a.1 ∙ sym (chosen_at σ l x)))
+state_sound σ l (p.Pair x y) k h s = let a = fits_put σ (eq.Product k (letter l x) (letter l y)) h s in (a.0, rw (chosen_at σ l x, chosen_at σ l y) (ap expression a.1))
+state_sound σ l p.Integers k h s =
+    let q = g.integer h in let a = fits_put σ (eq.Power k q.0) q.1 s in let b = fits_put σ (eq.Integer h.next) (g.after_fresh h) a.0 in
     (b.0, ap expression (a.1 ∙ ap type.power b.1))
-build_sound σ l p.Booleans h s =
-    let a = power_made σ h.next (g.boolean h).1 s in let b = fits_put σ (eq.Boolean h.next) (g.after_fresh h) a.0 in
+state_sound σ l p.Booleans k h s =
+    let q = g.boolean h in let a = fits_put σ (eq.Power k q.0) q.1 s in let b = fits_put σ (eq.Boolean h.next) (g.after_fresh h) a.0 in
     (b.0, ap expression (a.1 ∙ ap type.power b.1))
-build_sound σ l (p.Atoms c) h s =
-    let a = power_made σ h.next (g.carrier c h).1 s in let b = fits_put σ (eq.Carrier h.next c) (g.after_fresh h) a.0 in
+state_sound σ l (p.Atoms c) k h s =
+    let q = g.carrier c h in let a = fits_put σ (eq.Power k q.0) q.1 s in let b = fits_put σ (eq.Carrier h.next c) (g.after_fresh h) a.0 in
     (b.0, ap expression (a.1 ∙ ap type.power b.1))
-build_sound σ l (p.Set x) h s = let a = power_made σ (letter l x) h s in (a.0, rw (chosen_at σ l x) (ap expression a.1))
-build_sound σ l (p.Sets x) h s =
-    let a = power_made σ h.next (g.power (letter l x) h).1 s in let b = power_made σ (letter l x) h a.0 in
+state_sound σ l (p.Set x) k h s = let a = fits_put σ (eq.Power k (letter l x)) h s in (a.0, rw (chosen_at σ l x) (ap expression a.1))
+state_sound σ l (p.Sets x) k h s =
+    let q = g.power (letter l x) h in let a = fits_put σ (eq.Power k q.0) q.1 s in let b = power_made σ (letter l x) h a.0 in
     (b.0, rw (chosen_at σ l x) (ap expression (a.1 ∙ ap type.power b.1)))
-build_sound σ l (p.Relation x y) h s = let a = relation_made σ (letter l x) (letter l y) h s in (a.0, rw (chosen_at σ l x, chosen_at σ l y) (ap expression a.1))
-build_sound σ l (p.Relations x y) h s =
-    let q = g.relation (letter l x) (letter l y) h in
-    let a = power_made σ q.0 q.1 s in let b = relation_made σ (letter l x) (letter l y) h a.0 in
-    (b.0, rw (chosen_at σ l x, chosen_at σ l y) (ap expression (a.1 ∙ ap type.power b.1)))
-build_sound σ l p.ToPairs h s =
+state_sound σ l (p.Relation x y) k h s = let a = relation_stated σ k (letter l x) (letter l y) h s in (a.0, rw (chosen_at σ l x, chosen_at σ l y) (ap expression a.1))
+state_sound σ l (p.Relations x y) k h s =
+    let a = relation_stated σ h.next (letter l x) (letter l y) (put (eq.Power k h.next) (g.after_fresh h)) s in
+    let b = fits_put σ (eq.Power k h.next) (g.after_fresh h) a.0 in
+    (b.0, rw (chosen_at σ l x, chosen_at σ l y) (ap expression (b.1 ∙ ap type.power a.1)))
+state_sound σ l p.ToPairs k h s =
     let q = g.product l.b l.c h in
-    let a = relation_made σ l.a q.0 q.1 s in let b = product_made σ l.b l.c h a.0 in
+    let a = relation_stated σ k l.a q.0 q.1 s in let b = product_made σ l.b l.c h a.0 in
     (b.0, ap expression (a.1 ∙ ap (λ t. type.power (type.product (σ l.a) t)) b.1))
-build_sound σ l p.BetweenPairs h s =
+state_sound σ l p.BetweenPairs k h s =
     let q = g.product l.a l.b h in let r = g.product l.c l.d q.1 in
-    let a = relation_made σ q.0 r.0 r.1 s in let b = product_made σ l.c l.d q.1 a.0 in let c = product_made σ l.a l.b h b.0 in
+    let a = relation_stated σ k q.0 r.0 r.1 s in let b = product_made σ l.c l.d q.1 a.0 in let c = product_made σ l.a l.b h b.0 in
     (c.0, ap expression (a.1 ∙ (ap (λ t. type.power (type.product t (σ r.0))) c.1 ∙ ap (λ t. type.power (type.product (type.product (σ l.a) (σ l.b)) t)) b.1)))
-build_sound σ l p.ToFirst h s =
+state_sound σ l p.ToFirst k h s =
     let q = g.product l.a l.b h in
-    let a = relation_made σ q.0 l.a q.1 s in let b = product_made σ l.a l.b h a.0 in
+    let a = relation_stated σ k q.0 l.a q.1 s in let b = product_made σ l.a l.b h a.0 in
     (b.0, ap expression (a.1 ∙ ap (λ t. type.power (type.product t (σ l.a))) b.1))
-build_sound σ l p.ToSecond h s =
+state_sound σ l p.ToSecond k h s =
     let q = g.product l.a l.b h in
-    let a = relation_made σ q.0 l.b q.1 s in let b = product_made σ l.a l.b h a.0 in
+    let a = relation_stated σ k q.0 l.b q.1 s in let b = product_made σ l.a l.b h a.0 in
     (b.0, ap expression (a.1 ∙ ap (λ t. type.power (type.product t (σ l.b))) b.1))
 
-same_sound : (σ : ℕ → EbType) (a f : Found) (h : Generated) → Fit σ (same a f h) → Fit σ h × (sort_at σ a ≡ sort_at σ f)
-same_sound σ Predicate Predicate h s = (s, refl)
-same_sound σ (Expression k) (Expression m) h s = let a = fits_put σ (eq.Same k m) h s in (a.0, ap expression a.1)
-same_sound σ Predicate (Expression k) h s = absurd (fits_contradict σ k h s)
-same_sound σ (Expression k) Predicate h s = absurd (fits_contradict σ k h s)
+build_sound : (σ : ℕ → EbType) (l : Letters) (q : Pattern) (h : Generated) → Fit σ (build l q h).1 → Fit σ h × (sort_at σ (build l q h).0 ≡ sort (choice_at σ l) q)
+build_sound σ l p.Predicate h s = (s, refl)
+build_sound σ l (p.Type x) h s = (s, ap expression (sym (chosen_at σ l x)))
+build_sound σ l p.Integer h s = state_sound σ l p.Integer h.next (g.after_fresh h) s
+build_sound σ l p.Boolean h s = state_sound σ l p.Boolean h.next (g.after_fresh h) s
+build_sound σ l (p.Pair x y) h s = state_sound σ l (p.Pair x y) h.next (g.after_fresh h) s
+build_sound σ l p.Integers h s = state_sound σ l p.Integers h.next (g.after_fresh h) s
+build_sound σ l p.Booleans h s = state_sound σ l p.Booleans h.next (g.after_fresh h) s
+build_sound σ l (p.Atoms c) h s = state_sound σ l (p.Atoms c) h.next (g.after_fresh h) s
+build_sound σ l (p.Set x) h s = state_sound σ l (p.Set x) h.next (g.after_fresh h) s
+build_sound σ l (p.Sets x) h s = state_sound σ l (p.Sets x) h.next (g.after_fresh h) s
+build_sound σ l (p.Relation x y) h s = state_sound σ l (p.Relation x y) h.next (g.after_fresh h) s
+build_sound σ l (p.Relations x y) h s = state_sound σ l (p.Relations x y) h.next (g.after_fresh h) s
+build_sound σ l p.ToPairs h s = state_sound σ l p.ToPairs h.next (g.after_fresh h) s
+build_sound σ l p.BetweenPairs h s = state_sound σ l p.BetweenPairs h.next (g.after_fresh h) s
+build_sound σ l p.ToFirst h s = state_sound σ l p.ToFirst h.next (g.after_fresh h) s
+build_sound σ l p.ToSecond h s = state_sound σ l p.ToSecond h.next (g.after_fresh h) s
+
+none_sound : (σ : ℕ → EbType) (v : Choice) (q : Pattern) (h : Generated) → Fit σ (g.no_expression q h) → Fit σ h × (predicate ≡ sort v q)
+none_sound σ v p.Predicate h s = (s, refl)
+none_sound σ v q h s = absurd (fits_contradict σ 0 h s)
 
 fit_sound : (σ : ℕ → EbType) (l : Letters) (q : Pattern) (f : Found) (h : Generated) → Fit σ (fit l q f h) → Fit σ h × (sort_at σ f ≡ sort (choice_at σ l) q)
-fit_sound σ l q f h s =
-    let r = build l q h in
-    let a = same_sound σ r.0 f r.1 s in
-    let b = build_sound σ l q h a.0 in
-    (b.0, sym a.1 ∙ b.1)
+fit_sound σ l q Predicate h s = none_sound σ (choice_at σ l) q h s
+fit_sound σ l q (Expression k) h s = state_sound σ l q k h s
 
 fits_sound : (σ : ℕ → EbType) (l : Letters) (qs : List Pattern) (fs : List Found) (h : Generated) → Fit σ (fits l qs fs h) → Fit σ h × (map (sort_at σ) fs ≡ map (sort (choice_at σ l)) qs)
 fits_sound σ l [] [] h s = (s, refl)
@@ -124,8 +138,9 @@ record RowSound (σ : ℕ → EbType) (qs : List Pattern) (whole : Pattern) (fs 
 row_sound : (σ : ℕ → EbType) (qs : List Pattern) (whole : Pattern) (fs : List Found) (h : Generated) → Fit σ (row qs whole fs h).1 → RowSound σ qs whole fs h
 row_sound σ qs whole fs h s =
     let l = letters_at h.next in
-    let a = build_sound σ l whole (fits l qs fs (after_letters h)) s in
-    let b = fits_sound σ l qs fs (after_letters h) a.0 in
+    let m = after_letters (widest qs whole) h in
+    let a = build_sound σ l whole (fits l qs fs m) s in
+    let b = fits_sound σ l qs fs m a.0 in
     record { before = b.0; choice = choice_at σ l; parts = b.1; is = a.1 }
 
 checked_by : (σ : ℕ → EbType) (asked k : ℕ) (h : Generated) (b : Bool) → ltb k asked ≡ b → Fit σ (cond b h (contradict k h)) → Fit σ h × (slice_get (types_below asked σ) k ≡ Some (σ k))

@@ -1,14 +1,14 @@
 -- Steps of what makes the equations of formulas.
 use Rattle.std.proofs.Common.{◌≡◌, ◌∙◌, ℕ, suc, ◌+◌, ◌<◌, List, [], ◌∷◌, ◌++◌, map, length, drop, get_or, refl, sym, ap, subst, arith, append_assoc, add-one, drop-cons}
-use Rattle.std.specs.Prelude.{fold}
-use Rattle.eb_term.specs.declared.ast.Ast.{Ast}
-use Rattle.eb_infer.specs.declared.names.Entry.{Entry}
-use Rattle.eb_infer.specs.declared.pattern.Pattern.{Pattern}
+use Rattle.std.specs.Prelude.{fold, max}
+use Rattle.eb_syntax.specs.declared.ast.Ast.{Ast}
+use Rattle.eb_infer.specs.declared.entries.Entry.{Entry}
+use Rattle.type_table.specs.declared.pattern.Pattern.{Pattern}
 use Rattle.eb_infer.specs.declared.generated.Found.{Found}
 use Rattle.eb_infer.specs.declared.generated.Letters.{Letters}
 use Rattle.eb_infer.specs.declared.generated.Generated.{Generated}
 use Rattle.eb_infer.specs.Numbering.{Names, Reader, each, numbered}
-use Rattle.eb_infer.specs.Generating.{fit, fits, row, row_of_all, gen, gens, letters_at, after_letters, build}
+use Rattle.eb_infer.specs.steps.Generating.{fit, fits, row, row_of_all, gen, gens, letters_at, after_letters, build, width, widest, width_of_all}
 
 pub fits_all : {R : Type 0} (l : Letters) (part : Pattern) (rs : List R) (fs : List Found) (g : Generated) → length rs ≡ length fs → fits l (map (λ _. part) rs) fs g ≡ fold (λ h f. fit l part f h) g fs
 fits_all l part [] [] g e = refl
@@ -20,9 +20,23 @@ pub gens_length : (asked : ℕ) (fs : List Reader) (s : Names) (g : Generated) �
 gens_length asked [] s g = refl
 gens_length asked (f ∷ fs) s g = ap suc (gens_length asked fs (f s).1 (gen asked (f s).0 g).1)
 
+one_more : {R : Type 0} (part whole : Pattern) (rs : List R) → max (width part) (width whole) ≡ max (width part) (widest (map (λ _. part) rs) whole)
+one_more part whole [] = refl
+one_more part whole (r ∷ rs) = omega (arith, one_more part whole rs)
+
+width_all : {R : Type 0} (part whole : Pattern) (rs : List R) (fs : List Found) → length rs ≡ length fs → width_of_all part whole fs ≡ widest (map (λ _. part) rs) whole
+width_all part whole [] [] e = refl
+width_all part whole [] (f ∷ fs) e = absurd (omega arith)
+width_all part whole (r ∷ rs) [] e = absurd (omega arith)
+width_all part whole (r ∷ rs) (f ∷ fs) e = one_more part whole rs
+
 pub all_row : (asked : ℕ) (part whole : Pattern) (fs : List Reader) (s : Names) (g h : Generated) → row_of_all part whole (gens asked (each fs s).0 g).0 h ≡ row (map (λ _. part) fs) whole (gens asked (each fs s).0 g).0 h
 all_row asked part whole fs s g h =
-    ap (λ z. build (letters_at h.next) whole z) (sym (fits_all (letters_at h.next) part fs (gens asked (each fs s).0 g).0 (after_letters h) (gens_length asked fs s g)))
+    let found = (gens asked (each fs s).0 g).0 in
+    let count = gens_length asked fs s g in
+    let l = letters_at h.next in
+    ap (λ n. build l whole (fold (λ k f. fit l part f k) (after_letters n h) found)) (width_all part whole fs found count)
+    ∙ ap (λ z. build l whole z) (sym (fits_all l part fs found (after_letters (widest (map (λ _. part) fs) whole) h) count))
 
 -- what is left to walk over, as it stands after some formulas
 pub record Walked (asked : ℕ) (scope : List Entry) (all rest : List Ast) (old now : Names) (before out : Generated) (found : List Found) : Type 0 where

@@ -4,27 +4,27 @@
 -- lists the formulas. `Typed` is the definition of a typing.
 use Rattle.std.specs.Prelude.{◌≡◌, ⊤, ℕ, ◌+◌, Bool, List, [], ◌∷◌, ◌++◌, length, Option, Some, None, fold}
 use Rattle.eb_value.specs.declared.types.EbType.{EbType}
-use Rattle.eb_term.specs.declared.ast.Ast.{Ast}
-use Rattle.eb_term.specs.declared.ast.Identifier.{Identifier}
-use Rattle.eb_term.specs.declared.units.LabelledPredicate.{LabelledPredicate}
-use Rattle.eb_term.specs.declared.units.ContextClause.{ContextClause}
-use Rattle.eb_term.specs.declared.units.ContextClause.TheVariants as context
-use Rattle.eb_term.specs.declared.units.NamesClause.{NamesClause}
-use Rattle.eb_term.specs.declared.units.PredicatesClause.{PredicatesClause}
-use Rattle.eb_term.specs.declared.units.Assignment.{Assignment}
-use Rattle.eb_term.specs.declared.units.Assignment.TheVariants as becomes
-use Rattle.eb_term.specs.declared.units.Action.{Action}
-use Rattle.eb_term.specs.declared.units.Event.{Event}
-use Rattle.eb_term.specs.declared.units.MachineClause.{MachineClause}
-use Rattle.eb_term.specs.declared.units.MachineClause.TheVariants as machine
-use Rattle.eb_term.specs.declared.units.EbUnit.{EbUnit}
-use Rattle.eb_term.specs.declared.units.EbUnit.TheVariants as eb
+use Rattle.eb_syntax.specs.declared.ast.Ast.{Ast}
+use Rattle.eb_syntax.specs.declared.ast.Identifier.{Identifier}
+use Rattle.eb_syntax.specs.declared.units.LabelledPredicate.{LabelledPredicate}
+use Rattle.eb_syntax.specs.declared.units.ContextClause.{ContextClause}
+use Rattle.eb_syntax.specs.declared.units.ContextClause.TheVariants as context
+use Rattle.eb_syntax.specs.declared.units.NamesClause.{NamesClause}
+use Rattle.eb_syntax.specs.declared.units.PredicatesClause.{PredicatesClause}
+use Rattle.eb_syntax.specs.declared.units.Assignment.{Assignment}
+use Rattle.eb_syntax.specs.declared.units.Assignment.TheVariants as becomes
+use Rattle.eb_syntax.specs.declared.units.Action.{Action}
+use Rattle.eb_syntax.specs.declared.units.Event.{Event}
+use Rattle.eb_syntax.specs.declared.units.MachineClause.{MachineClause}
+use Rattle.eb_syntax.specs.declared.units.MachineClause.TheVariants as machine
+use Rattle.eb_syntax.specs.declared.units.EbUnit.{EbUnit}
+use Rattle.eb_syntax.specs.declared.units.EbUnit.TheVariants as eb
 use Rattle.eb_scoping.specs.Models.{AreMarked, marked}
 use Rattle.eb_infer.specs.declared.fault.TypeFault.{TypeFault}
 use Rattle.eb_infer.specs.declared.fault.TypeFault.TheVariants as fault
-use Rattle.eb_infer.specs.declared.names.Entry.{Entry}
+use Rattle.eb_infer.specs.declared.entries.Entry.{Entry}
 use Rattle.eb_infer.specs.Numbering.{Numbered, typed, unknown, of_one, of_two, of_three, Names, entry, no_names, declared_as, after_mark, bind_all, unbind, numbered}
-use Rattle.eb_infer.specs.Rows.{carrier_row, assignment_row, assignment_at_row, choice_row}
+use Rattle.type_table.specs.Rows.{carrier_row, assignment_row, assignment_at_row, choice_row}
 use Rattle.eb_infer.specs.Typing.{ArePredicates}
 
 -- A model up to some place: the names in scope there, how many carrier sets stand before it, the declared identifiers, and

@@ -7,26 +7,26 @@
 use Rattle.std.specs.Prelude.{ℕ, ◌+◌, if◌then◌else◌, List, [], ◌∷◌, ◌++◌, map, length, take, Option, Some, None, fold, unwrap_or}
 use Rattle.std.specs.Option.{option_or}
 use Rattle.std.specs.Str.{bytes_eq}
-use Rattle.eb_term.specs.declared.ast.Ast.{Ast}
-use Rattle.eb_term.specs.declared.ast.Node.{Node-F}
-use Rattle.eb_term.specs.declared.ast.Node.TheOpen as form
-use Rattle.eb_term.specs.declared.ast.Constant.{Constant}
-use Rattle.eb_term.specs.declared.ast.Binder.{Binder}
-use Rattle.eb_term.specs.declared.ast.Binder.TheVariants as binder
-use Rattle.eb_term.specs.declared.ast.Bound.{Bound}
-use Rattle.eb_term.specs.declared.ast.Bound.TheVariants as bound
-use Rattle.eb_term.specs.declared.ast.Mark.{Mark}
-use Rattle.eb_term.specs.declared.ast.Mark.TheVariants as mark
-use Rattle.eb_term.specs.declared.ast.Identifier.{Identifier}
-use Rattle.eb_term.specs.Asts.{by_parts}
-use Rattle.eb_infer.specs.declared.pattern.Letter.TheVariants.{A}
-use Rattle.eb_infer.specs.declared.pattern.Pattern.{Pattern}
-use Rattle.eb_infer.specs.declared.pattern.Pattern.TheVariants as p
-use Rattle.eb_infer.specs.declared.pattern.UnaryRow.{UnaryRow}
-use Rattle.eb_infer.specs.declared.pattern.BinaryRow.{BinaryRow}
-use Rattle.eb_infer.specs.declared.pattern.TernaryRow.{TernaryRow}
-use Rattle.eb_infer.specs.declared.names.Entry.{Entry}
-use Rattle.eb_infer.specs.Rows.{unary, is_mark, constant_pattern, prefix_row, call_row, inverse_row, quantifier_row, comprehension_row, builder_row, lambda_row, gathering_row, operator_row}
+use Rattle.eb_syntax.specs.declared.ast.Ast.{Ast}
+use Rattle.eb_syntax.specs.declared.ast.Node.{Node-F}
+use Rattle.eb_syntax.specs.declared.ast.Node.TheOpen as form
+use Rattle.eb_syntax.specs.declared.ast.Constant.{Constant}
+use Rattle.eb_syntax.specs.declared.ast.Binder.{Binder}
+use Rattle.eb_syntax.specs.declared.ast.Binder.TheVariants as binder
+use Rattle.eb_syntax.specs.declared.ast.Bound.{Bound}
+use Rattle.eb_syntax.specs.declared.ast.Bound.TheVariants as bound
+use Rattle.eb_syntax.specs.declared.ast.Mark.{Mark}
+use Rattle.eb_syntax.specs.declared.ast.Mark.TheVariants as mark
+use Rattle.eb_syntax.specs.declared.ast.Identifier.{Identifier}
+use Rattle.eb_syntax.specs.Asts.{by_parts}
+use Rattle.type_table.specs.declared.pattern.Letter.TheVariants.{A}
+use Rattle.type_table.specs.declared.pattern.Pattern.{Pattern}
+use Rattle.type_table.specs.declared.pattern.Pattern.TheVariants as p
+use Rattle.type_table.specs.declared.pattern.UnaryRow.{UnaryRow}
+use Rattle.type_table.specs.declared.pattern.BinaryRow.{BinaryRow}
+use Rattle.type_table.specs.declared.pattern.TernaryRow.{TernaryRow}
+use Rattle.eb_infer.specs.declared.entries.Entry.{Entry}
+use Rattle.type_table.specs.Rows.{unary, is_mark, constant_pattern, prefix_row, call_row, inverse_row, quantifier_row, comprehension_row, builder_row, lambda_row, gathering_row, operator_row}
 
 -- A formula with numbers in place of identifiers and marks.
 mutual
@@ -205,6 +205,18 @@ bound_made binder.Intersection b n t u = of_two gathering_row t u
 abbrev pub bound_by : Binder → Bound → Reader → Reader → Reader
 bound_by op b f g s = let l = f (bind_bound s b) in let r = g l.1 in (bound_made op b s.next l.0 r.0, unbind (length s.bound) r.1)
 
+-- `!` and `#`
+abbrev pub quantified : List Identifier → Reader → Reader
+quantified xs f s = let r = f (bind_all s xs) in (of_one quantifier_row r.0, unbind (length s.bound) r.1)
+
+-- {x.P|E}
+abbrev pub comprehension : List Identifier → Reader → Reader → Reader
+comprehension xs f g s = let l = f (bind_all s xs) in let r = g l.1 in (of_two comprehension_row l.0 r.0, unbind (length s.bound) r.1)
+
+-- {E|P}
+abbrev pub built : Reader → Reader → Reader
+built f g s = let l = f (enter s.next) in let r = g (leave s l.1) in (of_two builder_row l.0 r.0, unbind (length s.bound) r.1)
+
 abbrev pub number_step : List Entry → Node-F Reader Reader → Reader
 number_step scope (form.Number n) s = (made [] p.Integer none, s)
 number_step scope (form.Identifier x) s = used_as scope x s
@@ -215,10 +227,10 @@ number_step scope (form.Call op f) s = one (call_row op) f s
 number_step scope (form.Parentheses f) s = f s
 number_step scope (form.Inverse f) s = one inverse_row f s
 number_step scope (form.Operator op f g) s = two (operator_row op) f g s
-number_step scope (form.Quantifier q xs f) s = let r = f (bind_all s xs) in (of_one quantifier_row r.0, unbind (length s.bound) r.1)
+number_step scope (form.Quantifier q xs f) s = quantified xs f s
 number_step scope (form.Binder op b f g) s = bound_by op b f g s
-number_step scope (form.Comprehension xs f g) s = let l = f (bind_all s xs) in let r = g l.1 in (of_two comprehension_row l.0 r.0, unbind (length s.bound) r.1)
-number_step scope (form.Builder f g) s = let l = f (enter s.next) in let r = g (leave s l.1) in (of_two builder_row l.0 r.0, unbind (length s.bound) r.1)
+number_step scope (form.Comprehension xs f g) s = comprehension xs f g s
+number_step scope (form.Builder f g) s = built f g s
 number_step scope (form.Extension fs) s = extension fs s
 number_step scope (form.Partition fs) s = all (p.Set A) p.Predicate fs s
 

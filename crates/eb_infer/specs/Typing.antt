@@ -2,9 +2,9 @@
 use Rattle.std.specs.Prelude.{◌≡◌, ℕ, ◌+◌, ⊤, List, [], ◌∷◌, map, Option, Some, None, option_and_then, slice_get}
 use Rattle.eb_value.specs.declared.types.EbType.{EbType}
 use Rattle.eb_value.specs.Types.{product}
-use Rattle.eb_term.specs.declared.ast.Mark.{Mark}
-use Rattle.eb_term.specs.declared.ast.Mark.TheVariants as mark
-use Rattle.eb_infer.specs.Rows.{Sort, predicate, expression, Choice, sort}
+use Rattle.eb_syntax.specs.declared.ast.Mark.{Mark}
+use Rattle.eb_syntax.specs.declared.ast.Mark.TheVariants as mark
+use Rattle.type_table.specs.Rows.{Sort, predicate, expression, Choice, sort}
 use Rattle.eb_infer.specs.Numbering.{Numbered, typed, unknown, tuple, made, Parts, none, also}
 
 -- A pattern of a `%` read up to some token: the type of what stands since the last open parenthesis, if anything does, and of what

@@ -13,7 +13,7 @@ pub enum TypeFault {
     /// There are two different typings.
     #[error("a type is open")]
     Open,
-    /// Memory ran out, or there are more than 2^32 numbers.
+    /// Memory ran out, there are more than 2^32 numbers, or a type is more than 1,000 deep.
     #[error("memory ran out")]
     Memory,
 }

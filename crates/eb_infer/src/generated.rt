@@ -1,10 +1,10 @@
 //! Equations between the types of the parts of formulas.
 ghost use Rattle.std.specs.Prelude.{◌≡◌, [], ◌∷◌, fold, IfOk, OnOk};
-ghost use Rattle.eb_infer.specs.Generating as spec;
+ghost use Rattle.eb_infer.specs.steps.Generating as spec;
 
-use crate::pattern::{BinaryRow, Letter, Pattern, TernaryRow, UnaryRow};
 use std::alloc::{AllocError, Global};
 use type_equations::{Equation, Equations};
+use type_table::{BinaryRow, Letter, Pattern, TernaryRow, UnaryRow};
 
 /// What the formula is for which equations were made.
 #[derive(Clone, Copy, Debug, PartialEq, Eq)]
@@ -33,6 +33,56 @@ impl Letters {
             Letter::C => self.c,
             Letter::D => self.d,
         }
+    }
+}
+
+/// How many letters there are up to this one.
+fn rank(letter: Letter) -> u32
+    ensures { result ≡ spec.rank letter }
+{
+    match letter {
+        Letter::A => 1,
+        Letter::B => 2,
+        Letter::C => 3,
+        Letter::D => 4,
+    }
+}
+
+/// How many letters there are up to the last one that the pattern has.
+fn width(pattern: Pattern) -> u32
+    ensures { result ≡ spec.width pattern }
+{
+    match pattern {
+        Pattern::Predicate
+        | Pattern::Integer
+        | Pattern::Boolean
+        | Pattern::Integers
+        | Pattern::Booleans
+        | Pattern::Atoms(_) => 0,
+        Pattern::Type(x) | Pattern::Set(x) | Pattern::Sets(x) => rank(x),
+        Pattern::Pair(x, y) | Pattern::Relation(x, y) | Pattern::Relations(x, y) => {
+            rank(x).max(rank(y))
+        }
+        Pattern::ToPairs => 3,
+        Pattern::BetweenPairs => 4,
+        Pattern::ToFirst | Pattern::ToSecond => 2,
+    }
+}
+
+fn ternary_width(row: TernaryRow) -> u32
+    ensures { result ≡ spec.widest (row.first ∷ row.second ∷ row.third ∷ []) row.whole }
+{
+    let last = width(row.third).max(width(row.whole));
+    width(row.first).max(width(row.second).max(last))
+}
+
+fn width_of_all(part: Pattern, whole: Pattern, parts: &[Found]) -> u32
+    ensures { result ≡ spec.width_of_all part whole parts.now }
+{
+    if parts.is_empty() {
+        width(whole)
+    } else {
+        width(part).max(width(whole))
     }
 }
 
@@ -113,15 +163,6 @@ impl Generated {
         Ok(number)
     }
 
-    fn relation(&mut self, first: u32, second: u32) -> Result<u32, AllocError>
-        ensures number { IfOk result (λ n. n ≡ (spec.relation first second self.old).0) }
-        ensures made { OnOk result (self.new ≡ (spec.relation first second self.old).1) }
-    {
-        let pair = self.product(first, second)?;
-        let number = self.power(pair)?;
-        Ok(number)
-    }
-
     /// Nothing solves these equations.
     pub(crate) fn contradict(&mut self, number: u32) -> Result<(), AllocError>
         ensures { OnOk result (self.new ≡ spec.contradict number self.old) }
@@ -130,114 +171,120 @@ impl Generated {
         self.put(Equation::Boolean(number))
     }
 
-    fn of_relations(&mut self, letters: Letters, pattern: Pattern) -> Result<u32, AllocError>
-        ensures number { IfOk result (λ n. n ≡ (spec.of_relations letters pattern self.old).0) }
-        ensures made { OnOk result (self.new ≡ (spec.of_relations letters pattern self.old).1) }
+    /// The type with this number is that of the relations from a type to a type.
+    fn state_relation(&mut self, number: u32, first: u32, second: u32) -> Result<(), AllocError>
+        ensures { OnOk result (self.new ≡ spec.state_relation number first second self.old) }
+    {
+        let pair = self.product(first, second)?;
+        self.put(Equation::Power(number, pair))
+    }
+
+    /// What the pattern of a relation, or of a set of relations, says of the type with this number.
+    fn state_relations(
+        &mut self,
+        letters: Letters,
+        pattern: Pattern,
+        number: u32,
+    ) -> Result<(), AllocError>
+        ensures { OnOk result (self.new ≡ spec.state_relations letters pattern number self.old) }
     {
         match pattern {
-            Pattern::Relation(x, y) => {
-                let number = self.relation(letters.at(x), letters.at(y))?;
-                Ok(number)
-            }
+            Pattern::Relation(x, y) => { self.state_relation(number, letters.at(x), letters.at(y)) }
             Pattern::Relations(x, y) => {
-                let members = self.relation(letters.at(x), letters.at(y))?;
-                let number = self.power(members)?;
-                Ok(number)
+                let members = self.fresh()?;
+                self.put(Equation::Power(number, members))?;
+                self.state_relation(members, letters.at(x), letters.at(y))
             }
             Pattern::ToPairs => {
                 let pair = self.product(letters.b, letters.c)?;
-                let number = self.relation(letters.a, pair)?;
-                Ok(number)
+                self.state_relation(number, letters.a, pair)
             }
             Pattern::BetweenPairs => {
                 let first = self.product(letters.a, letters.b)?;
                 let second = self.product(letters.c, letters.d)?;
-                let number = self.relation(first, second)?;
-                Ok(number)
+                self.state_relation(number, first, second)
             }
             Pattern::ToFirst => {
                 let pair = self.product(letters.a, letters.b)?;
-                let number = self.relation(pair, letters.a)?;
-                Ok(number)
+                self.state_relation(number, pair, letters.a)
             }
             Pattern::ToSecond => {
                 let pair = self.product(letters.a, letters.b)?;
-                let number = self.relation(pair, letters.b)?;
-                Ok(number)
+                self.state_relation(number, pair, letters.b)
             }
-            _ => Ok(letters.a),
+            _ => self.contradict(number),
         }
     }
 
-    fn of_sets(&mut self, letters: Letters, pattern: Pattern) -> Result<u32, AllocError>
-        ensures number { IfOk result (λ n. n ≡ (spec.of_sets letters pattern self.old).0) }
-        ensures made { OnOk result (self.new ≡ (spec.of_sets letters pattern self.old).1) }
+    /// What the pattern of a set that is no relation says of the type with this number.
+    fn state_sets(
+        &mut self,
+        letters: Letters,
+        pattern: Pattern,
+        number: u32,
+    ) -> Result<(), AllocError>
+        ensures { OnOk result (self.new ≡ spec.state_sets letters pattern number self.old) }
+    {
+        let members = match pattern {
+            Pattern::Integers => self.integer()?,
+            Pattern::Booleans => self.boolean()?,
+            Pattern::Atoms(place) => self.carrier(place)?,
+            Pattern::Set(x) => letters.at(x),
+            Pattern::Sets(x) => self.power(letters.at(x))?,
+            _ => return self.contradict(number),
+        };
+        self.put(Equation::Power(number, members))
+    }
+
+    /// What the pattern of an expression says of the type with this number.
+    fn state(&mut self, letters: Letters, pattern: Pattern, number: u32) -> Result<(), AllocError>
+        ensures { OnOk result (self.new ≡ spec.state letters pattern number self.old) }
     {
         match pattern {
-            Pattern::Integers => {
-                let members = self.integer()?;
-                let number = self.power(members)?;
-                Ok(number)
+            Pattern::Predicate => self.contradict(number),
+            Pattern::Integer => self.put(Equation::Integer(number)),
+            Pattern::Boolean => self.put(Equation::Boolean(number)),
+            Pattern::Type(x) => self.put(Equation::Same(number, letters.at(x))),
+            Pattern::Pair(x, y) => {
+                self.put(Equation::Product(number, letters.at(x), letters.at(y)))
             }
-            Pattern::Booleans => {
-                let members = self.boolean()?;
-                let number = self.power(members)?;
-                Ok(number)
-            }
-            Pattern::Atoms(place) => {
-                let members = self.carrier(place)?;
-                let number = self.power(members)?;
-                Ok(number)
-            }
-            Pattern::Set(x) => {
-                let number = self.power(letters.at(x))?;
-                Ok(number)
-            }
-            Pattern::Sets(x) => {
-                let members = self.power(letters.at(x))?;
-                let number = self.power(members)?;
-                Ok(number)
-            }
-            _ => Ok(letters.a),
-        }
-    }
-
-    /// What the pattern says, with a type of its own.
-    fn build(&mut self, letters: Letters, pattern: Pattern) -> Result<Found, AllocError>
-        ensures found { IfOk result (λ found. found ≡ (spec.build letters pattern self.old).0) }
-        ensures made { OnOk result (self.new ≡ (spec.build letters pattern self.old).1) }
-    {
-        let number = match pattern {
-            Pattern::Predicate => return Ok(Found::Predicate),
-            Pattern::Integer => self.integer()?,
-            Pattern::Boolean => self.boolean()?,
-            Pattern::Type(x) => letters.at(x),
-            Pattern::Pair(x, y) => self.product(letters.at(x), letters.at(y))?,
             Pattern::Integers
             | Pattern::Booleans
             | Pattern::Atoms(_)
             | Pattern::Set(_)
-            | Pattern::Sets(_) => self.of_sets(letters, pattern)?,
+            | Pattern::Sets(_) => self.state_sets(letters, pattern, number),
             Pattern::Relation(_, _)
             | Pattern::Relations(_, _)
             | Pattern::ToPairs
             | Pattern::BetweenPairs
             | Pattern::ToFirst
-            | Pattern::ToSecond => self.of_relations(letters, pattern)?,
-        };
-        Ok(Found::Expression(number))
+            | Pattern::ToSecond => self.state_relations(letters, pattern, number),
+        }
     }
 
-    fn same(&mut self, left: Found, right: Found) -> Result<(), AllocError>
-        ensures { OnOk result (self.new ≡ spec.same left right self.old) }
+    /// What is as the pattern says.
+    fn build(&mut self, letters: Letters, pattern: Pattern) -> Result<Found, AllocError>
+        ensures found { IfOk result (λ found. found ≡ (spec.build letters pattern self.old).0) }
+        ensures made { OnOk result (self.new ≡ (spec.build letters pattern self.old).1) }
     {
-        match (left, right) {
-            (Found::Predicate, Found::Predicate) => Ok(()),
-            (Found::Expression(left), Found::Expression(right)) => {
-                self.put(Equation::Same(left, right))
+        match pattern {
+            Pattern::Predicate => Ok(Found::Predicate),
+            Pattern::Type(x) => Ok(Found::Expression(letters.at(x))),
+            _ => {
+                let number = self.fresh()?;
+                self.state(letters, pattern, number)?;
+                Ok(Found::Expression(number))
             }
-            (Found::Predicate, Found::Expression(number))
-            | (Found::Expression(number), Found::Predicate) => self.contradict(number),
+        }
+    }
+
+    /// A predicate is as the pattern says.
+    fn fit_predicate(&mut self, pattern: Pattern) -> Result<(), AllocError>
+        ensures { OnOk result (self.new ≡ spec.no_expression pattern self.old) }
+    {
+        match pattern {
+            Pattern::Predicate => Ok(()),
+            _ => self.contradict(0),
         }
     }
 
@@ -250,18 +297,22 @@ impl Generated {
     ) -> Result<(), AllocError>
         ensures { OnOk result (self.new ≡ spec.fit letters pattern part self.old) }
     {
-        let found = self.build(letters, pattern)?;
-        self.same(found, part)
+        match part {
+            Found::Predicate => self.fit_predicate(pattern),
+            Found::Expression(number) => self.state(letters, pattern, number),
+        }
     }
 
-    pub(crate) fn letters(&mut self) -> Result<Letters, AllocError>
+    /// The numbers of that many letters, A first. The others are no numbers of their own.
+    fn letters(&mut self, width: u32) -> Result<Letters, AllocError>
         ensures letters { IfOk result (λ letters. letters ≡ spec.letters_at self.old.next) }
-        ensures made { OnOk result (self.new ≡ spec.after_letters self.old) }
+        ensures made { OnOk result (self.new ≡ spec.after_letters width self.old) }
     {
-        let a = self.fresh()?;
-        let b = self.fresh()?;
-        let c = self.fresh()?;
-        let d = self.fresh()?;
+        let a = self.next;
+        let b = a.checked_add(1).ok_or(AllocError)?;
+        let c = b.checked_add(1).ok_or(AllocError)?;
+        let d = c.checked_add(1).ok_or(AllocError)?;
+        self.next = a.checked_add(width).ok_or(AllocError)?;
         Ok(Letters { a, b, c, d })
     }
 
@@ -270,19 +321,17 @@ impl Generated {
         ensures found { IfOk result (λ found. found ≡ (spec.row [] whole [] self.old).0) }
         ensures made { OnOk result (self.new ≡ (spec.row [] whole [] self.old).1) }
     {
-        let letters = self.letters()?;
-        let found = self.build(letters, whole)?;
-        Ok(found)
+        let letters = self.letters(width(whole))?;
+        self.build(letters, whole)
     }
 
     pub(crate) fn unary(&mut self, row: UnaryRow, part: Found) -> Result<Found, AllocError>
         ensures found { IfOk result (λ found. found ≡ (spec.row (row.part ∷ []) row.whole (part ∷ []) self.old).0) }
         ensures made { OnOk result (self.new ≡ (spec.row (row.part ∷ []) row.whole (part ∷ []) self.old).1) }
     {
-        let letters = self.letters()?;
+        let letters = self.letters(width(row.part).max(width(row.whole)))?;
         self.fit(letters, row.part, part)?;
-        let found = self.build(letters, row.whole)?;
-        Ok(found)
+        self.build(letters, row.whole)
     }
 
     pub(crate) fn binary(
@@ -294,11 +343,11 @@ impl Generated {
         ensures found { IfOk result (λ found. found ≡ (spec.row (row.left ∷ row.right ∷ []) row.whole (left ∷ right ∷ []) self.old).0) }
         ensures made { OnOk result (self.new ≡ (spec.row (row.left ∷ row.right ∷ []) row.whole (left ∷ right ∷ []) self.old).1) }
     {
-        let letters = self.letters()?;
+        let width = width(row.left).max(width(row.right).max(width(row.whole)));
+        let letters = self.letters(width)?;
         self.fit(letters, row.left, left)?;
         self.fit(letters, row.right, right)?;
-        let found = self.build(letters, row.whole)?;
-        Ok(found)
+        self.build(letters, row.whole)
     }
 
     pub(crate) fn ternary(
@@ -311,12 +360,11 @@ impl Generated {
         ensures found { IfOk result (λ found. found ≡ (spec.row (row.first ∷ row.second ∷ row.third ∷ []) row.whole (first ∷ second ∷ third ∷ []) self.old).0) }
         ensures made { OnOk result (self.new ≡ (spec.row (row.first ∷ row.second ∷ row.third ∷ []) row.whole (first ∷ second ∷ third ∷ []) self.old).1) }
     {
-        let letters = self.letters()?;
+        let letters = self.letters(ternary_width(row))?;
         self.fit(letters, row.first, first)?;
         self.fit(letters, row.second, second)?;
         self.fit(letters, row.third, third)?;
-        let found = self.build(letters, row.whole)?;
-        Ok(found)
+        self.build(letters, row.whole)
     }
 
     /// What has parts that are all as one pattern says.
@@ -329,7 +377,7 @@ impl Generated {
         ensures found { IfOk result (λ found. found ≡ (spec.row_of_all part whole parts.now self.old).0) }
         ensures made { OnOk result (self.new ≡ (spec.row_of_all part whole parts.now self.old).1) }
     {
-        let letters = self.letters()?;
+        let letters = self.letters(width_of_all(part, whole, parts))?;
         for found in parts {
             self.fit(letters, part, *found)?;
         }

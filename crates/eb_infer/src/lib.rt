@@ -1,12 +1,11 @@
 //! The types of a model's identifiers and marks, where there is just one typing.
 #![tactic(auto)]
 
+mod entries;
 mod fault;
 mod generated;
 mod model;
 mod names;
-mod pattern;
-mod rows;
 mod scope;
 mod tuple;
 mod typing;
@@ -14,6 +13,3 @@ mod walk;
 
 pub use fault::TypeFault;
 pub use typing::{Typing, infer};
-
-#[cfg(test)]
-mod tests;

@@ -1,15 +1,15 @@
 //! The equations of a model, unit by unit.
 ghost use Rattle.std.specs.Prelude.{◌≡◌, OnOk, fold, if◌then◌else◌};
-ghost use Rattle.eb_infer.specs.Generating as spec;
+ghost use Rattle.eb_infer.specs.steps.Generating as spec;
 ghost use Rattle.eb_infer.specs.Models as models;
 ghost use Rattle.eb_infer.specs.Numbering.{unknown};
 
+use crate::entries::Entry;
 use crate::generated::Generated;
-use crate::names::{Entry, Names};
-use crate::rows::{assignment_at_row, assignment_row, carrier_row, choice_row};
+use crate::names::Names;
 use crate::scope::Scope;
 use crate::walk::{declared_as, known, typed, walk};
-use eb_term::{
+use eb_syntax::{
     Action, Assignment, Ast, ContextClause, EbUnit, Event, Identifier, LabelledPredicate,
     MachineClause, NamesClause, PredicatesClause,
 };
@@ -17,6 +17,7 @@ use sqlite_items::Items;
 use std::alloc::{AllocError, Global};
 use std::marker::Model;
 use type_equations::Equations;
+use type_table::{assignment_at_row, assignment_row, carrier_row, choice_row};
 
 /// A model up to some place.
 #[derive(Drop)]

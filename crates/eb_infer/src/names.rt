@@ -1,59 +1,29 @@
 //! The names in scope and their numbers.
-ghost use Rattle.std.specs.Prelude.{◌≡◌, ◌+◌, IfOk, OnOk, length, map, option_map};
+ghost use Rattle.std.specs.Prelude.{◌≡◌, ◌+◌, IfOk, OnOk, length};
 ghost use Rattle.eb_infer.specs.Numbering as spec;
 
-use eb_term::{Bound, Identifier, Mark};
-use eb_value::Name;
-use sqlite_items::Items;
+use crate::entries::Entries;
+use eb_names::Name;
+use eb_syntax::{Bound, Identifier, Mark};
 use std::alloc::{AllocError, Global};
 use std::marker::Model;
-
-/// A name and its number.
-#[derive(Drop)]
-pub struct Entry {
-    pub name: Name,
-    pub number: u32,
-}
-
-impl Entry {
-    pub(crate) fn new(alloc: Global, name: &Name, number: u32) -> Result<Entry, AllocError>
-        ensures { IfOk result (λ entry. entry ≡ spec.entry name.now number) }
-    {
-        let name = name.copied(alloc)?;
-        Ok(Entry { name, number })
-    }
-}
 
 /// The names in scope, the innermost last.
 #[derive(Drop)]
 pub(crate) struct Names {
-    bound: Vec<Entry>,
+    bound: Entries,
     /// What the E of a `{E|P}` has bound so far, inside such an E.
-    built: Option<Vec<Entry>>,
+    built: Option<Entries>,
     /// The first number that is free.
     next: u32,
 }
 
 impl Model for Names {
     ghost use Rattle.eb_infer.specs.Numbering.{Names};
-    ghost use Rattle.std.specs.Prelude.{option_map};
 
     ghost Value = { Names };
 
-    ghost view = { λ n. record { bound = n.bound.items; built = option_map (λ v. v.items) n.built; next = n.next } };
-}
-
-/// The number of the last entry of this name.
-fn newest(entries: &[Entry], name: &Name) -> Option<u32>
-    ensures { result ≡ spec.newest name.now entries.now }
-{
-    let mut found = None;
-    for entry in entries {
-        if name.as_str() == entry.name.as_str() {
-            found = Some(entry.number);
-        }
-    }
-    found
+    ghost view = { λ n. record { bound = n.bound; built = n.built; next = n.next } };
 }
 
 fn after(number: u32) -> Result<u32, AllocError>
@@ -68,7 +38,7 @@ impl Names {
         ensures { result ≡ spec.no_names }
     {
         Names {
-            bound: Vec::new(alloc),
+            bound: Entries::new(alloc),
             built: None,
             next: 0,
         }
@@ -79,8 +49,8 @@ impl Names {
         ensures { result ≡ spec.enter self.now.next }
     {
         Names {
-            bound: Vec::new(alloc),
-            built: Some(Vec::new(alloc)),
+            bound: Entries::new(alloc),
+            built: Some(Entries::new(alloc)),
             next: self.next,
         }
     }
@@ -112,8 +82,7 @@ impl Names {
     pub(crate) fn bind(&mut self, alloc: Global, identifier: &Identifier) -> Result<(), AllocError>
         ensures { OnOk result (self.new ≡ spec.bind self.old identifier.now) }
     {
-        let entry = Entry::new(alloc, &identifier.name, self.next)?;
-        self.bound.push(entry)?;
+        self.bound.push(alloc, &identifier.name, self.next)?;
         self.next = after(self.next)?;
         Ok(())
     }
@@ -167,13 +136,13 @@ impl Names {
     }
 
     /// Binds what the E of a `{E|P}` has bound.
-    pub(crate) fn leave(&mut self, inner: Names) -> Result<(), AllocError>
+    pub(crate) fn leave(&mut self, alloc: Global, inner: Names) -> Result<(), AllocError>
         ensures { OnOk result (self.new ≡ spec.leave self.old inner) }
     {
         let Names { built, next, .. } = inner;
         self.next = next;
         match built {
-            Some(mut built) => self.bound.append(&mut built),
+            Some(built) => self.bound.append(alloc, built.layers()),
             None => Ok(()),
         }
     }
@@ -187,11 +156,10 @@ impl Names {
         let Some(built) = &mut self.built else {
             return Ok(None);
         };
-        if let Some(found) = newest(built, name) {
+        if let Some(found) = built.newest(name) {
             return Ok(Some(found));
         }
-        let entry = Entry::new(alloc, name, number)?;
-        built.push(entry)?;
+        built.push(alloc, name, number)?;
         self.next = after(number)?;
         Ok(Some(number))
     }
@@ -201,7 +169,7 @@ impl Names {
         ensures number { IfOk result (λ k. k ≡ spec.inner_number name.now self.old) }
         ensures names { OnOk result (self.new ≡ spec.after_use name.now self.old) }
     {
-        if let Some(found) = newest(&self.bound, name) {
+        if let Some(found) = self.bound.newest(name) {
             return Ok(Some(found));
         }
         self.built_as(alloc, name)

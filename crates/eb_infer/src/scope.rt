@@ -2,27 +2,27 @@
 ghost use Rattle.std.specs.Prelude.{◌≡◌, IfOk, OnOk, if◌then◌else◌};
 ghost use Rattle.eb_infer.specs.Numbering as spec;
 ghost use Rattle.std.specs.Prelude.{ℕ, List};
-ghost use Rattle.indexmap.specs.IndexMap.{get_by_text};
+ghost use Rattle.std.specs.BTreeMap.{get_by_text};
 
-use crate::names::Entry;
-use eb_value::Name;
-use indexmap::IndexMap;
+use crate::entries::Entry;
+use eb_names::Name;
 use sqlite_items::Items;
 use std::alloc::{AllocError, Global};
+use std::collections::BTreeMap;
 use std::marker::Model;
 
 /// The declared identifiers of a model, and how many numbers it has.
 #[derive(Drop)]
 pub(crate) struct Scope {
     entries: Items<Entry>,
-    places: IndexMap<String, u32>,
+    places: BTreeMap<String, u32>,
     asked: u32,
 }
 
 impl Model for Scope {
-    ghost use Rattle.eb_infer.specs.Generating.{Scope};
+    ghost use Rattle.eb_infer.specs.steps.Generating.{Scope};
     ghost use Rattle.std.specs.Prelude.{ℕ, List, ◌≡◌};
-    ghost use Rattle.indexmap.specs.IndexMap.{get_by_text};
+    ghost use Rattle.std.specs.BTreeMap.{get_by_text};
     ghost use Rattle.eb_infer.specs.Numbering.{oldest};
 
     ghost Value = { Scope };
@@ -33,7 +33,7 @@ impl Model for Scope {
 }
 
 /// Adds a name that isn't there yet.
-fn add(alloc: Global, places: &mut IndexMap<String, u32>, entry: &Entry) -> Result<(), AllocError>
+fn add(alloc: Global, places: &mut BTreeMap<String, u32>, entry: &Entry) -> Result<(), AllocError>
     ensures { OnOk result ((q : List ℕ) → get_by_text places.new q ≡ spec.older q (get_by_text places.old q) entry.now) }
 {
     let name = entry.name.as_str();
@@ -45,10 +45,10 @@ fn add(alloc: Global, places: &mut IndexMap<String, u32>, entry: &Entry) -> Resu
 }
 
 /// The number of the first entry of each name.
-fn places_of(alloc: Global, entries: &[Entry]) -> Result<IndexMap<String, u32>, AllocError>
+fn places_of(alloc: Global, entries: &[Entry]) -> Result<BTreeMap<String, u32>, AllocError>
     ensures { IfOk result (λ places. (q : List ℕ) → get_by_text places q ≡ spec.oldest q entries.now) }
 {
-    let mut places = IndexMap::new(alloc);
+    let mut places = BTreeMap::new(alloc);
     for entry in entries {
         add(alloc, &mut places, entry)?;
     }

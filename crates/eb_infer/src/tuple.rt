@@ -1,10 +1,10 @@
 //! The equations of patterns.
 ghost use Rattle.std.specs.Prelude.{◌≡◌, [], ◌∷◌, IfOk, OnOk, MatchOption, fold};
-ghost use Rattle.eb_infer.specs.Generating as spec;
+ghost use Rattle.eb_infer.specs.steps.Generating as spec;
 ghost use Rattle.eb_infer.specs.Typing.{ungrouped};
 
 use crate::generated::{Found, Generated};
-use eb_term::Mark;
+use eb_syntax::Mark;
 use std::alloc::{AllocError, Global};
 use std::marker::Model;
 

@@ -1,21 +1,22 @@
 //! The typing of a model.
 ghost use Rattle.std.specs.Prelude.{◌≡◌, ◌≤◌, IfOk, IfErr, OnOk, if◌then◌else◌};
 ghost use Rattle.eb_scoping.specs.Models.{marked};
-ghost use Rattle.eb_infer.specs.Equating.{Equated};
-ghost use Rattle.eb_infer.specs.Generating as spec;
+ghost use Rattle.eb_infer.specs.steps.Equating.{Equated};
+ghost use Rattle.eb_infer.specs.steps.Generating as spec;
 ghost use Rattle.eb_infer.specs.Models as models;
+ghost use Rattle.type_equations.specs.Depths.{AreShallow};
 ghost use Rattle.type_equations.specs.Equations.{IsBelow, AreBelow};
 
 use crate::fault::TypeFault;
 use crate::model::Walker;
 use crate::scope::Scope;
 use eb_scoping::model_units;
-use eb_term::EbUnit;
+use eb_syntax::EbUnit;
 use sqlite_items::Items;
 use std::alloc::{AllocError, Global};
 use type_equations::{Equation, Equations, Solution, SolveFault, solve};
 
-/// The types of the identifiers and marks of a model by their numbers. Contracts see their list.
+/// The types of the identifiers and marks of a model by their numbers, each at most 1,000 deep. Contracts see their list.
 pub type Typing = Solution;
 
 /// Equations, and which numbers they speak of.
@@ -107,10 +108,12 @@ fn problem_of(alloc: Global, units: &[EbUnit]) -> Result<Problem, AllocError>
 ///
 /// Declared identifiers, bound identifiers and marks (`{}`, `id`, `prj1`, `prj2`) are numbered together from 0, in the order
 /// in which they stand in the text; an identifier that `{E|P}` binds stands where E uses it first. The fault `Clash` comes
-/// exactly where there is no typing, `Open` where there are two different ones, and `Memory` where memory runs out or
-/// there are more than 2^32 numbers. The types are those of Abrial, "Modeling in Event-B" (2010).
+/// exactly where there is no typing, `Open` where there are two different ones, and `Memory` where memory runs out, where
+/// there are more than 2^32 numbers, and where a type is more than 1,000 deep: the stack of who goes through a type by
+/// its parts is memory too. The types are those of Abrial, "Modeling in Event-B" (2010).
 pub fn infer(alloc: Global, units: &[EbUnit]) -> Result<Typing, TypeFault>
     ensures typed { IfOk result (λ typing. models.IsOnly units.now typing) }
+    ensures shallow { IfOk result (λ typing. AreShallow typing) }
     ensures cause { IfErr result (models.IsFaultOf units.now) }
 {
     let problem = problem_of(alloc, units)?;

@@ -1,21 +1,20 @@
 //! The equations of formulas, part by part.
 ghost use Rattle.std.specs.Prelude.{◌≡◌, IfOk, OnOk, map};
-ghost use Rattle.eb_infer.specs.Generating as spec;
+ghost use Rattle.eb_infer.specs.steps.Generating as spec;
 ghost use Rattle.eb_infer.specs.Numbering as numbers;
 
 use crate::generated::{Found, Generated};
 use crate::names::Names;
-use crate::pattern::{Letter, Pattern, UnaryRow};
-use crate::rows::{
-    builder_row, call_row, comprehension_row, constant_pattern, gathering_row, inverse_row,
-    is_mark, lambda_row, operator_row, prefix_row, quantifier_row,
-};
 use crate::scope::Scope;
 use crate::tuple::{check, tuple};
-use eb_term::{Ast, Binder, Bound, Constant, Node};
-use eb_value::Name;
+use eb_names::Name;
+use eb_syntax::{Ast, Binder, Bound, Constant, Identifier, Node};
 use sqlite_items::Items;
 use std::alloc::{AllocError, Global};
+use type_table::{
+    Letter, Pattern, UnaryRow, builder_row, call_row, comprehension_row, constant_pattern,
+    gathering_row, inverse_row, is_mark, lambda_row, operator_row, prefix_row, quantifier_row,
+};
 
 /// The number is one of the typing.
 pub(crate) fn typed(scope: &Scope, number: u32, out: &mut Generated) -> Result<Found, AllocError>
@@ -199,12 +198,7 @@ pub(crate) fn walk(
             Ok(found)
         }
         Node::Quantifier(_, bound, part) => {
-            let depth = names.depth();
-            names.bind_all(alloc, bound.as_slice())?;
-            let part = walk(alloc, scope, part.get(), names, out)?;
-            names.unbind(depth);
-            let found = out.unary(quantifier_row(), part)?;
-            Ok(found)
+            quantified(alloc, scope, bound.as_slice(), part.get(), names, out)
         }
         Node::Binder(Binder::Lambda, bound, condition, value) => {
             let depth = names.depth();
@@ -237,7 +231,7 @@ pub(crate) fn walk(
             let depth = names.depth();
             let mut inner = names.entered(alloc);
             let value = walk(alloc, scope, value.get(), &mut inner, out)?;
-            names.leave(inner)?;
+            names.leave(alloc, inner)?;
             let condition = walk(alloc, scope, condition.get(), names, out)?;
             names.unbind(depth);
             let found = out.binary(builder_row(), value, condition)?;
@@ -254,6 +248,27 @@ pub(crate) fn walk(
             Ok(found)
         }
     }
+}
+
+/// `!` and `#`.
+#[cycle(walking)]
+fn quantified(
+    alloc: Global,
+    scope: &Scope,
+    bound: &[Identifier],
+    part: &Ast,
+    names: &mut Names,
+    out: &mut Generated,
+) -> Result<Found, AllocError>
+    ensures found { IfOk result (λ found. found ≡ (spec.gen scope.now.asked (numbers.quantified bound.now (numbers.numbered scope.now.entries part.now) names.old).0 out.old).0) }
+    ensures made { OnOk result (out.new ≡ (spec.gen scope.now.asked (numbers.quantified bound.now (numbers.numbered scope.now.entries part.now) names.old).0 out.old).1) }
+    ensures names { OnOk result (names.new ≡ (numbers.quantified bound.now (numbers.numbered scope.now.entries part.now) names.old).1) }
+{
+    let depth = names.depth();
+    names.bind_all(alloc, bound)?;
+    let part = walk(alloc, scope, part, names, out)?;
+    names.unbind(depth);
+    out.unary(quantifier_row(), part)
 }
 
 /// What each of the formulas is, in order.

@@ -9,3 +9,4 @@ pub mod TokenLaws
 pub mod Spellings
 pub mod PieceLaws
 pub mod TextLaws
+pub mod SignTexts

@@ -2,7 +2,7 @@
 use Rattle.std.proofs.Common.{◌≡◌, ℕ, ◌+◌, ◌*◌, ◌-◌, ◌≤◌, ◌<◌, List, [], ◌∷◌, arith}
 use Rattle.std.specs.Prelude.{Some, None, pos}
 use Rattle.eb_lexer.specs.Tokens.{number_on}
-use Rattle.eb_lexer.specs.Lexing.{number_of}
+use Rattle.eb_lexer.specs.steps.Lexing.{number_of}
 
 -- more digits make no smaller number
 pub number_on-grows : (n : ℕ) (ds : List ℕ) → n ≤ number_on n ds

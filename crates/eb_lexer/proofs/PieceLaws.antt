@@ -10,7 +10,7 @@ use Rattle.eb_lexer.specs.declared.token.TokenKind.{TokenKind}
 use Rattle.eb_lexer.specs.Tokens.{is_number, is_in_line, EndsLine, begins_close, has_close, begins_gap, Piece, blank, line, block, token, written, IsToken, Fits, IsFirst, tokens_at}
 use Rattle.eb_lexer.proofs.TokenOf.{token_of, is_lexeme}
 use Rattle.eb_lexer.proofs.Spellings.{longest_of, token_from, none_spelled}
-use Rattle.eb_lexer.specs.Lexing.{Step, stop, bad, passed, found, next, solid, token_step, token_at, block_step, close_at}
+use Rattle.eb_lexer.specs.steps.Lexing.{Step, stop, bad, passed, found, next, solid, token_step, token_at, block_step, close_at}
 use Rattle.eb_lexer.proofs.Bools.{is_same, and_false, either_false, both_true}
 use Rattle.eb_lexer.proofs.Runs.{Stops, run_passes, run_exact}
 use Rattle.eb_lexer.proofs.TokenLaws.{run_stops, run_parts, IsLongest, Reads, token_at_reads}

@@ -9,10 +9,10 @@ use Rattle.std.proofs.lemmas.Str.{encodes_same, encode_ascii}
 use Rattle.unicode_ident.proofs.Computing.{unicode_ident}
 use Rattle.eb_lexer.specs.declared.token.Sign.{Sign}
 use Rattle.eb_lexer.specs.Signs.{signs, sign_of, spelled_among}
-use Rattle.eb_lexer.specs.SignTables.{sign_in, words, one_signs, twos, threes, fours, fives, operator_words, formula_words, unit_words, event_words, ascii_ones, logic_ones, set_ones, relation_ones}
+use Rattle.eb_lexer.specs.steps.SignTables.{sign_in, words, one_signs, twos, threes, fours, fives, operator_words, formula_words, unit_words, event_words, ascii_ones, logic_ones, set_ones, relation_ones}
 use Rattle.eb_lexer.specs.Tokens.{starts_word, continues_word, is_identifier, is_digit}
 use Rattle.std.proofs.lemmas.List.{length-take-le}
-use Rattle.eb_lexer.specs.Lexing.{reserved, level, up_to_one, up_to_two, up_to_three, up_to_four, sign_at}
+use Rattle.eb_lexer.specs.steps.Lexing.{reserved, level, up_to_one, up_to_two, up_to_three, up_to_four, sign_at}
 use Rattle.eb_lexer.proofs.TableLaws.{or_in, sign_in_append}
 use Rattle.eb_lexer.proofs.Bools.{both_true}
 

@@ -3,7 +3,7 @@ use Rattle.std.proofs.Common.{◌≡◌, ◌∙◌, ℕ, Bool, true, false, cond
 use Rattle.std.specs.Prelude.{Option, Some, None}
 use Rattle.std.specs.Str.{bytes_eq}
 use Rattle.eb_lexer.specs.declared.token.Sign.{Sign}
-use Rattle.eb_lexer.specs.SignTables.{sign_in}
+use Rattle.eb_lexer.specs.steps.SignTables.{sign_in}
 
 -- the first table that has the spelling
 abbrev pub or_in : Option Sign → Option Sign → Option Sign

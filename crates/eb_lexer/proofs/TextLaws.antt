@@ -8,7 +8,7 @@ use Rattle.eb_lexer.specs.declared.token.Token.{Token}
 use Rattle.eb_lexer.specs.Tokens.{Piece, blank, line, block, token, written, IsToken, IsFirst, Begins, size, sizes, tokens_at, IsTokens, IsBadAt, LieFrom}
 use Rattle.eb_lexer.specs.declared.pieces.Next.{Next}
 use Rattle.eb_lexer.specs.declared.pieces.Next.TheVariants as next_of
-use Rattle.eb_lexer.specs.Lexing.{Step, stop, bad, passed, found, next, seen}
+use Rattle.eb_lexer.specs.steps.Lexing.{Step, stop, bad, passed, found, next, seen}
 use Rattle.eb_lexer.proofs.Sizes.{size-append}
 use Rattle.eb_lexer.proofs.Spellings.{none_spelled}
 use Rattle.eb_lexer.proofs.PieceLaws.{GapFirst, TokenFirst, NoneFirst, Holds, next_holds, first_same, not_empty}

@@ -1,4 +1,4 @@
 pub mod Signs
 pub mod Tokens
-pub mod SignTables
-pub mod Lexing
+-- what only private functions cite: how the code goes on, as a means of proof
+pub mod steps

@@ -1,9 +1,13 @@
 -- The signs of the Event-B mathematical language and how each is spelled, in characters.
-use Rattle.std.specs.Prelude.{ℕ, List, [], ◌∷◌, codes, Option, Some, None, if◌then◌else◌}
+use Rattle.std.specs.Prelude.{ℕ, Bool, false, List, [], ◌∷◌, codes, Option, Some, None, if◌then◌else◌}
 use Rattle.std.specs.List.{list_any}
 use Rattle.std.specs.Str.{bytes_eq}
+use denote.Enum.Bare.{sameb}
+use Rattle.eb_lexer.specs.contracts.token.Sign.{the_type}
 use Rattle.eb_lexer.specs.declared.token.Sign.{Sign}
 use Rattle.eb_lexer.specs.declared.token.Sign.TheVariants as s
+use Rattle.eb_lexer.specs.declared.token.TokenKind.{TokenKind}
+use Rattle.eb_lexer.specs.declared.token.TokenKind.TheVariants as kind
 
 -- each sign with its spellings, the ASCII one first
 unfoldable pub signs : List (Sign × List (List ℕ))
@@ -142,3 +146,25 @@ spelled_among w (row ∷ rows) = if list_any (bytes_eq w) row.1 then Some row.0 
 -- the sign that a text spells
 unfoldable pub sign_of : List ℕ → Option Sign
 sign_of w = spelled_among w signs
+
+-- `==` on signs
+unfoldable pub same_sign : Sign → Sign → Bool
+same_sign = sameb the_type
+
+-- whether the token is this sign
+abbrev pub is_kind : Sign → TokenKind → Bool
+is_kind sign (kind.Sign r) = same_sign r sign
+is_kind sign _ = false
+
+abbrev pub first_of : List (List ℕ) → List ℕ
+first_of [] = []
+first_of (w ∷ ws) = w
+
+-- the first spelling of a sign among these
+abbrev pub first_spelling : Sign → List (Sign × List (List ℕ)) → List ℕ
+first_spelling r [] = []
+first_spelling r (row ∷ rows) = if same_sign row.0 r then first_of row.1 else first_spelling r rows
+
+-- the ASCII spelling of a sign
+unfoldable pub sign_text : Sign → List ℕ
+sign_text r = first_spelling r signs

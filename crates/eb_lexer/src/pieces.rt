@@ -1,21 +1,25 @@
 ghost use Rattle.std.specs.Prelude.{◌≡◌, List, [], ◌∷◌, take_while, length, IfOk, IfSome, ◌≤◌, ◌<◌};
 ghost use Rattle.std.specs.Str.{encode_utf8_all};
 ghost use Rattle.eb_lexer.specs.Tokens as spec;
-ghost use Rattle.eb_lexer.specs.Lexing as lexing;
+ghost use Rattle.eb_lexer.specs.steps.Lexing as lexing;
 
 use super::signs::sign_at;
 use super::token::{Sign, TokenKind};
 use super::words::reserved;
-use eb_value::Name;
+use eb_names::Name;
 use std::alloc::{AllocError, Global};
 use unicode_ident::{is_xid_continue, is_xid_start};
 
 /// What stands at the front of a text: white space or a comment of so many characters, or a token of so many.
-#[derive(Debug, Drop)]
-pub enum Next {
+#[derive(Drop)]
+pub(crate) enum Next {
+    /// The text ends.
     End,
+    /// Neither white space nor a comment nor a token begins.
     Bad,
+    /// White space or a comment.
     Gap(usize),
+    /// A token.
     Found(TokenKind, usize),
 }
 
@@ -75,7 +79,7 @@ fn line_len(text: &[char]) -> usize
 const LIMIT: u64 = 1 << 62;
 
 /// The number that the digits write, if it is within the limit.
-#[tactic(auto, unfolding(crate::specs::Lexing::number_of))]
+#[tactic(auto, unfolding(crate::specs::steps::Lexing::number_of))]
 fn number(digits: &[char]) -> Option<i64>
     ensures { result ≡ lexing.number_of digits.now }
 {
@@ -112,7 +116,7 @@ fn first_word_len(text: &[char]) -> usize
 }
 
 /// The word at the front, a reserved one or an identifier, which is primed where a `'` follows; and its length.
-#[tactic(auto, unfolding(crate::specs::Lexing::word_at))]
+#[tactic(auto, unfolding(crate::specs::steps::Lexing::word_at))]
 fn word(alloc: Global, text: &[char]) -> Result<(TokenKind, usize), AllocError>
     ensures { IfOk result (λ x. x ≡ lexing.word_at text.now) }
 {
@@ -129,7 +133,7 @@ fn word(alloc: Global, text: &[char]) -> Result<(TokenKind, usize), AllocError>
 }
 
 /// The number at the front, if it is within the limit, and how many digits it has.
-#[tactic(auto, unfolding(crate::specs::Lexing::number_at))]
+#[tactic(auto, unfolding(crate::specs::steps::Lexing::number_at))]
 fn number_token(text: &[char]) -> Option<(TokenKind, usize)>
     ensures { result ≡ lexing.number_at text.now }
 {
@@ -139,7 +143,7 @@ fn number_token(text: &[char]) -> Option<(TokenKind, usize)>
 }
 
 /// The label whose `@` stands before the text, and its length with the `@`.
-#[tactic(auto, unfolding(crate::specs::Lexing::label_at))]
+#[tactic(auto, unfolding(crate::specs::steps::Lexing::label_at))]
 fn label(alloc: Global, text: &[char]) -> Result<Option<(TokenKind, usize)>, AllocError>
     ensures { IfOk result (λ x. x ≡ lexing.label_at text.now) }
 {
@@ -152,7 +156,7 @@ fn label(alloc: Global, text: &[char]) -> Result<Option<(TokenKind, usize)>, All
 }
 
 /// The token at the front of a text that begins with neither white space nor a comment, and its length.
-#[tactic(auto, unfolding(crate::specs::Lexing::token_at))]
+#[tactic(auto, unfolding(crate::specs::steps::Lexing::token_at))]
 fn token(alloc: Global, text: &[char]) -> Result<Option<(TokenKind, usize)>, AllocError>
     ensures { IfOk result (λ x. x ≡ lexing.token_at text.now) }
 {
@@ -231,8 +235,8 @@ fn solid(alloc: Global, text: &[char]) -> Result<Next, AllocError>
 }
 
 /// What stands at the front of the text. The only error is want of memory.
-#[tactic(auto, unfolding(crate::specs::Lexing::next))]
-pub fn front(alloc: Global, text: &[char]) -> Result<Next, AllocError>
+#[tactic(auto, unfolding(crate::specs::steps::Lexing::next))]
+pub(crate) fn front(alloc: Global, text: &[char]) -> Result<Next, AllocError>
     ensures { IfOk result (λ next. lexing.seen next ≡ lexing.next text.now) }
 {
     match text {

@@ -1,11 +1,11 @@
 ghost use Rattle.std.specs.Prelude.{◌≡◌, List, [], ◌∷◌};
-ghost use Rattle.eb_lexer.specs.SignTables as tables;
-ghost use Rattle.eb_lexer.specs.Lexing as lexing;
+ghost use Rattle.eb_lexer.specs.steps.SignTables as tables;
+ghost use Rattle.eb_lexer.specs.steps.Lexing as lexing;
 
 use super::token::Sign;
 
 /// The sign of one ASCII character.
-#[tactic(auto, unfolding(crate::specs::SignTables::ascii_ones))]
+#[tactic(auto, unfolding(crate::specs::steps::SignTables::ascii_ones))]
 fn ascii_sign(a: char) -> Option<Sign>
     ensures { result ≡ tables.sign_in (a ∷ []) tables.ascii_ones }
 {
@@ -40,7 +40,7 @@ fn ascii_sign(a: char) -> Option<Sign>
 }
 
 /// The connective, relation or arithmetic sign of one other character.
-#[tactic(auto, unfolding(crate::specs::SignTables::logic_ones))]
+#[tactic(auto, unfolding(crate::specs::steps::SignTables::logic_ones))]
 fn logic_symbol(a: char) -> Option<Sign>
     ensures { result ≡ tables.sign_in (a ∷ []) tables.logic_ones }
 {
@@ -73,7 +73,7 @@ fn logic_symbol(a: char) -> Option<Sign>
 }
 
 /// The sign of sets or actions of one other character.
-#[tactic(auto, unfolding(crate::specs::SignTables::set_ones))]
+#[tactic(auto, unfolding(crate::specs::steps::SignTables::set_ones))]
 fn set_symbol(a: char) -> Option<Sign>
     ensures { result ≡ tables.sign_in (a ∷ []) tables.set_ones }
 {
@@ -97,7 +97,7 @@ fn set_symbol(a: char) -> Option<Sign>
 }
 
 /// The arrow or operator on relations of one other character.
-#[tactic(auto, unfolding(crate::specs::SignTables::relation_ones))]
+#[tactic(auto, unfolding(crate::specs::steps::SignTables::relation_ones))]
 fn relation_symbol(a: char) -> Option<Sign>
     ensures { result ≡ tables.sign_in (a ∷ []) tables.relation_ones }
 {
@@ -127,7 +127,7 @@ fn relation_symbol(a: char) -> Option<Sign>
 }
 
 /// The sign of two characters.
-#[tactic(auto, unfolding(crate::specs::SignTables::twos))]
+#[tactic(auto, unfolding(crate::specs::steps::SignTables::twos))]
 fn of_two(a: char, b: char) -> Option<Sign>
     ensures { result ≡ tables.sign_in (a ∷ b ∷ []) tables.twos }
 {
@@ -160,7 +160,7 @@ fn of_two(a: char, b: char) -> Option<Sign>
 }
 
 /// The sign of three characters.
-#[tactic(auto, unfolding(crate::specs::SignTables::threes))]
+#[tactic(auto, unfolding(crate::specs::steps::SignTables::threes))]
 fn of_three(a: char, b: char, c: char) -> Option<Sign>
     ensures { result ≡ tables.sign_in (a ∷ b ∷ c ∷ []) tables.threes }
 {
@@ -181,7 +181,7 @@ fn of_three(a: char, b: char, c: char) -> Option<Sign>
 }
 
 /// The sign of four characters.
-#[tactic(auto, unfolding(crate::specs::SignTables::fours))]
+#[tactic(auto, unfolding(crate::specs::steps::SignTables::fours))]
 fn of_four(a: char, b: char, c: char, d: char) -> Option<Sign>
     ensures { result ≡ tables.sign_in (a ∷ b ∷ c ∷ d ∷ []) tables.fours }
 {
@@ -197,7 +197,7 @@ fn of_four(a: char, b: char, c: char, d: char) -> Option<Sign>
 }
 
 /// The sign of one character.
-#[tactic(auto, unfolding(crate::specs::SignTables::one_signs), using(crate::proofs::TableLaws::in_four))]
+#[tactic(auto, unfolding(crate::specs::steps::SignTables::one_signs), using(crate::proofs::TableLaws::in_four))]
 fn of_one(a: char) -> Option<Sign>
     ensures { result ≡ tables.sign_in (a ∷ []) tables.one_signs }
 {
@@ -213,7 +213,7 @@ fn of_one(a: char) -> Option<Sign>
     relation_symbol(a)
 }
 
-#[tactic(auto, unfolding(crate::specs::Lexing::up_to_one))]
+#[tactic(auto, unfolding(crate::specs::steps::Lexing::up_to_one))]
 fn up_to_one(text: &[char]) -> Option<(Sign, usize)>
     ensures { result ≡ lexing.up_to_one text.now }
 {
@@ -222,7 +222,7 @@ fn up_to_one(text: &[char]) -> Option<(Sign, usize)>
     Some((sign, 1))
 }
 
-#[tactic(auto, unfolding(crate::specs::Lexing::up_to_two))]
+#[tactic(auto, unfolding(crate::specs::steps::Lexing::up_to_two))]
 fn up_to_two(text: &[char]) -> Option<(Sign, usize)>
     ensures { result ≡ lexing.up_to_two text.now }
 {
@@ -234,7 +234,7 @@ fn up_to_two(text: &[char]) -> Option<(Sign, usize)>
     up_to_one(text)
 }
 
-#[tactic(auto, unfolding(crate::specs::Lexing::up_to_three))]
+#[tactic(auto, unfolding(crate::specs::steps::Lexing::up_to_three))]
 fn up_to_three(text: &[char]) -> Option<(Sign, usize)>
     ensures { result ≡ lexing.up_to_three text.now }
 {
@@ -246,7 +246,7 @@ fn up_to_three(text: &[char]) -> Option<(Sign, usize)>
     up_to_two(text)
 }
 
-#[tactic(auto, unfolding(crate::specs::Lexing::up_to_four))]
+#[tactic(auto, unfolding(crate::specs::steps::Lexing::up_to_four))]
 fn up_to_four(text: &[char]) -> Option<(Sign, usize)>
     ensures { result ≡ lexing.up_to_four text.now }
 {
@@ -258,7 +258,7 @@ fn up_to_four(text: &[char]) -> Option<(Sign, usize)>
     up_to_three(text)
 }
 
-#[tactic(auto, unfolding(crate::specs::SignTables::fives))]
+#[tactic(auto, unfolding(crate::specs::steps::SignTables::fives))]
 fn of_five(a: char, b: char, c: char, d: char, e: char) -> Option<Sign>
     ensures { result ≡ tables.sign_in (a ∷ b ∷ c ∷ d ∷ e ∷ []) tables.fives }
 {
@@ -269,8 +269,8 @@ fn of_five(a: char, b: char, c: char, d: char, e: char) -> Option<Sign>
 }
 
 /// The longest sign at the front that is no word, and its number of characters.
-#[tactic(auto, unfolding(crate::specs::Lexing::sign_at))]
-pub fn sign_at(text: &[char]) -> Option<(Sign, usize)>
+#[tactic(auto, unfolding(crate::specs::steps::Lexing::sign_at))]
+pub(crate) fn sign_at(text: &[char]) -> Option<(Sign, usize)>
     ensures { result ≡ lexing.sign_at text.now }
 {
     if let [a, b, c, d, e, ..] = text

@@ -1,4 +1,4 @@
-use eb_value::Name;
+use eb_names::Name;
 use sqlite_items::Items;
 use thiserror::Error;
 
@@ -247,7 +247,7 @@ pub enum Sign {
 }
 
 /// What a token is.
-#[derive(Debug, Drop)]
+#[derive(Drop)]
 pub enum TokenKind {
     /// An identifier that is no reserved word.
     Word(Name),
@@ -262,7 +262,7 @@ pub enum TokenKind {
 }
 
 /// A token and its place: the bytes from `start` to before `end`.
-#[derive(Debug, Drop)]
+#[derive(Drop)]
 pub struct Token {
     pub kind: TokenKind,
     pub start: u32,

@@ -1,11 +1,11 @@
 ghost use Rattle.std.specs.Prelude.{◌≡◌};
-ghost use Rattle.eb_lexer.specs.SignTables as tables;
-ghost use Rattle.eb_lexer.specs.Lexing as lexing;
+ghost use Rattle.eb_lexer.specs.steps.SignTables as tables;
+ghost use Rattle.eb_lexer.specs.steps.Lexing as lexing;
 
 use super::token::Sign;
 
 /// The sign that is a word among the operators, constants and set names.
-#[tactic(auto, unfolding(crate::specs::SignTables::operator_words))]
+#[tactic(auto, unfolding(crate::specs::steps::SignTables::operator_words))]
 fn operator_word(word: &str) -> Option<Sign>
     ensures { result ≡ tables.sign_in word.now tables.operator_words }
 {
@@ -28,7 +28,7 @@ fn operator_word(word: &str) -> Option<Sign>
 }
 
 /// The other signs of formulas that are words.
-#[tactic(auto, unfolding(crate::specs::SignTables::formula_words))]
+#[tactic(auto, unfolding(crate::specs::steps::SignTables::formula_words))]
 fn formula_word(word: &str) -> Option<Sign>
     ensures { result ≡ tables.sign_in word.now tables.formula_words }
 {
@@ -54,7 +54,7 @@ fn formula_word(word: &str) -> Option<Sign>
 }
 
 /// The signs that are words of contexts and machines.
-#[tactic(auto, unfolding(crate::specs::SignTables::unit_words))]
+#[tactic(auto, unfolding(crate::specs::steps::SignTables::unit_words))]
 fn unit_word(word: &str) -> Option<Sign>
     ensures { result ≡ tables.sign_in word.now tables.unit_words }
 {
@@ -77,7 +77,7 @@ fn unit_word(word: &str) -> Option<Sign>
 }
 
 /// The signs that are words of events.
-#[tactic(auto, unfolding(crate::specs::SignTables::event_words))]
+#[tactic(auto, unfolding(crate::specs::steps::SignTables::event_words))]
 fn event_word(word: &str) -> Option<Sign>
     ensures { result ≡ tables.sign_in word.now tables.event_words }
 {
@@ -98,8 +98,8 @@ fn event_word(word: &str) -> Option<Sign>
 }
 
 /// The sign that is this reserved word.
-#[tactic(auto, unfolding(crate::specs::SignTables::words, crate::specs::Lexing::reserved), using(crate::proofs::TableLaws::in_four))]
-pub fn reserved(word: &str) -> Option<Sign>
+#[tactic(auto, unfolding(crate::specs::steps::SignTables::words, crate::specs::steps::Lexing::reserved), using(crate::proofs::TableLaws::in_four))]
+pub(crate) fn reserved(word: &str) -> Option<Sign>
     ensures { result ≡ lexing.reserved word.now }
 {
     if let Some(sign) = operator_word(word) {

@@ -3,7 +3,7 @@ use Rattle.std.proofs.Common.{◌≡◌, ◌∙◌, ◌++◌, ◌∷◌, [], Boo
 use Rattle.std.specs.List.{AllByRecursion}
 use Rattle.std.specs.declared.result.Result.{Result}
 use Rattle.std.specs.declared.result.Result.TheVariants.{Ok, Err}
-use Rattle.eb_term.specs.declared.units.EbUnit.{EbUnit}
+use Rattle.eb_syntax.specs.declared.units.EbUnit.{EbUnit}
 use Rattle.eb_lower.specs.declared.fault.NameFault.{NameFault}
 use Rattle.eb_lower.specs.declared.fault.NameFault.TheVariants as fault
 use Rattle.std.specs.Result.{IfOk, IfErr}
@@ -12,9 +12,9 @@ use Rattle.eb_lower.specs.Names.{AreNamed, IsFaultOf}
 use Rattle.eb_lower.specs.Unsupported.{unsupported}
 use Rattle.eb_lower.specs.Declarations.{Declaration, declarations, AreDistinct}
 use Rattle.eb_lower.specs.Usages.{Usage, usages, IsKnown}
-use Rattle.eb_lower.specs.Keys.{AreJudged}
-use Rattle.eb_lower.specs.Known.{JudgesUsage}
-use Rattle.eb_lower.specs.Answers.{Answers, KnowsAll}
+use Rattle.eb_lower.specs.steps.Keys.{AreJudged}
+use Rattle.eb_lower.specs.steps.Known.{JudgesUsage}
+use Rattle.eb_lower.specs.steps.Answers.{Answers, KnowsAll}
 
 pub declared_answer : (us : List EbUnit) (marks : List Bool) (ds : List Declaration) (e : NameFault) → unsupported us ≡ [] → ds ≡ declarations us marks → AreJudged ds (Err e) → Answers us marks (Err e)
 declared_answer us marks ds (fault.Unsupported place) n d j = absurd j

@@ -4,15 +4,15 @@ use Rattle.std.specs.List.{flat_map}
 use Rattle.std.specs.Prelude.{bytes_eq}
 use Rattle.std.proofs.lemmas.List.{take_more, take_all}
 use Rattle.std.proofs.lemmas.Grind.{flat_map-append}
-use Rattle.eb_term.specs.declared.units.EbUnit.{EbUnit}
+use Rattle.eb_syntax.specs.declared.units.EbUnit.{EbUnit}
 use Rattle.eb_scoping.specs.FreeNames.{is_among}
 use Rattle.std.specs.Global.{Vec}
-use Rattle.std.specs.HashMap.{HashMap}
+use Rattle.std.specs.BTreeMap.{BTreeMap}
 use Rattle.std.specs.Result.{IfOk}
 use Rattle.std.specs.declared.result.Result.{Result}
 use Rattle.std.specs.declared.result.Result.TheVariants.{Ok, Err}
 use Rattle.eb_scoping.specs.Groups.{group}
-use Rattle.eb_lower.specs.Facts.{all_carriers, unit_carriers, all_heads, static_heads, seen_heads, AreStatics}
+use Rattle.eb_lower.specs.steps.Facts.{all_carriers, unit_carriers, all_heads, static_heads, seen_heads, AreStatics}
 
 or_assoc : (a b c : Bool) → (a || (b || c)) ≡ ((a || b) || c)
 or_assoc true b c = refl
@@ -99,7 +99,7 @@ places_seen q (h ∷ heads) = by_test (bytes_eq q h.0.now) (places_seen q heads)
     by_test true e = ap (λ z. h.1 ∷ z) e
     by_test false e = e
 
-pub grouped_statics : {S E : Type 0} (us : List EbUnit) (bs : List Bool) (i : ℕ) (heads slice : List (Bor (List ℕ) × ℕ)) (r : Result (HashMap (Bor (List ℕ)) (Vec ℕ) S) E) → length us ≤ i → length bs ≤ i
+pub grouped_statics : {E : Type 0} (us : List EbUnit) (bs : List Bool) (i : ℕ) (heads slice : List (Bor (List ℕ) × ℕ)) (r : Result (BTreeMap (Bor (List ℕ)) (Vec ℕ)) E) → length us ≤ i → length bs ≤ i
     → seen_heads heads ≡ all_heads 0 (take i us) (take i bs) → slice ≡ heads
     → IfOk r (λ m. (q : List ℕ) → group m q ≡ map (λ p. p.1) (filter (λ p. bytes_eq q p.0.now) slice)) → IfOk r (λ m. AreStatics us bs m)
 grouped_statics us bs i heads slice (Err e) l m h s g = tt

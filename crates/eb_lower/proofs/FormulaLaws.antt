@@ -1,8 +1,8 @@
 -- The declarations of a formula by its kind.
 use Rattle.std.proofs.Common.{◌≡◌, ◌∙◌, ◌++◌, List, [], ◌∷◌, map, ap, refl, rules}
 use Rattle.std.specs.List.{flat_map}
-use Rattle.eb_term.specs.declared.ast.Ast.{Ast, the_lemmas}
-use Rattle.eb_term.specs.declared.ast.Node.TheVariants as node
+use Rattle.eb_syntax.specs.declared.ast.Ast.{Ast, the_lemmas}
+use Rattle.eb_syntax.specs.declared.ast.Node.TheVariants as node
 use Rattle.eb_lower.specs.Declarations.{formula_declarations}
 
 flat_mapped : {A B C : Type 0} (h : B → List C) (k : A → B) (xs : List A) → flat_map h (map k xs) ≡ flat_map (λ x. h (k x)) xs

@@ -1,7 +1,8 @@
 -- Laws of the sets of what is declared.
-use Rattle.std.proofs.Common.{◌≡◌, ◌∙◌, ◌⊎◌, ◌||◌, ◌&&◌, ◌++◌, ◌∷◌, [], ℕ, List, Bool, true, false, cond, refl, sym, ap, subst, inl, inr, ⊎_elim, Contains, bytes_eq, Bor, rules, arith}
+use Rattle.std.proofs.Common.{◌≡◌, ◌∙◌, ◌⊎◌, ◌||◌, ◌&&◌, ◌++◌, ◌∷◌, [], ℕ, List, Bool, true, false, cond, refl, sym, ap, subst, inl, inr, ⊎_elim, Contains, bytes_eq, Bor, rules}
 use Rattle.std.specs.List.{list_any}
 use Rattle.std.specs.HashSet.{HashSet}
+use Rattle.std.specs.BTreeSet.{BTreeSet}
 use Rattle.std.proofs.lemmas.Slice.Eq.{bytes_eq-Decides}
 use Rattle.std.proofs.lemmas.List.Elements.{Contains-append_left, Contains-push, Contains-push_cases}
 use denote.Enum.Bare.{sameb, same_true}
@@ -12,13 +13,18 @@ use Rattle.eb_lower.specs.declared.repeats.Kind.{Kind}
 use Rattle.eb_lower.specs.declared.repeats.Kind.TheVariants as kind
 use Rattle.eb_lower.specs.declared.repeats.Key.{Key}
 use Rattle.eb_lower.specs.Declarations.{Space, space_units, space_model, space_parameters, space_events, space_axioms, space_invariants, space_assigned, space_words, space_sizes, Declaration, declared, binds, Meet, meet_same, meet_parameter, meet_model, Repeats, AreDistinct}
-use Rattle.eb_lower.specs.Seen.{space}
+use Rattle.eb_lower.specs.steps.Seen.{space}
 use Rattle.std.specs.declared.result.Result.{Result}
 use Rattle.std.specs.declared.result.Result.TheVariants.{Ok, Err}
 use Rattle.eb_lower.specs.declared.fault.NameFault.{NameFault}
 use Rattle.eb_lower.specs.declared.fault.NameFault.TheVariants as fault
+use Rattle.std.specs.BTreeMap.{is_at}
+use Rattle.std.specs.Ordering.{nat_cmp}
+use Rattle.std.specs.Cmp.Lexicographic.{slice_cmp}
+use Rattle.eb_lower.proofs.ListLaws.{contains_none}
 use Rattle.eb_lower.proofs.RepeatLaws.{apart_more, distinct_none}
-use Rattle.eb_lower.specs.Keys.{same_parts, has, has_text, kind_of, kind_in, owner_of, is_parameter, is_hidden, is_taken, Keeps, HasFront, JudgesFront, BindsApart, Judged, AreJudged}
+use Rattle.eb_scoping.specs.Sets.{has_text}
+use Rattle.eb_lower.specs.steps.Keys.{same_parts, has, kind_of, kind_in, owner_of, is_parameter, is_hidden, is_taken, Keeps, HasFront, JudgesFront, BindsApart, Judged, AreJudged}
 
 pub cond_or : (b x : Bool) → cond b true x ≡ (b || x)
 cond_or true x = refl
@@ -108,7 +114,7 @@ name_in (binds xs) = []
 declared_same : (s t : Space) (x y : List ℕ) → declared s x ≡ declared t y → (s ≡ t) × (x ≡ y)
 declared_same s t x y e = (ap space_in e, ap name_in e)
 
-module _ {S : Type 0} (keys : HashSet Key S) (parameters : HashSet (Bor (List ℕ)) S) (ds : List Declaration) (k : Keeps keys parameters ds) where
+module _ {S : Type 0} (keys : HashSet Key S) (parameters : BTreeSet (Bor (List ℕ))) (ds : List Declaration) (k : Keeps keys parameters ds) where
   pub keeps_binds : (xs : List (List ℕ)) → Keeps keys parameters (ds ++ binds xs ∷ [])
   keeps_binds xs = record {
     had = λ s x h. Contains-append_left ds (binds xs ∷ []) (declared s x) (k.had s x h);
@@ -158,7 +164,7 @@ module _ {S : Type 0} (keys : HashSet Key S) (parameters : HashSet (Bor (List �
       let t : is_taken keys parameters s x ≡ true = ⊎_elim own (λ h. or_right (has keys (kind_of s) (owner_of (space s)) x) (is_hidden keys parameters s x) h) (meets_taken s x r.1 r.2 r.3) in
       let no_way : true ≡ false = sym t ∙ f in cc
 
-  module _ (keys' : HashSet Key S) (parameters' : HashSet (Bor (List ℕ)) S) (s : SpaceAt) (x : List ℕ)
+  module _ (keys' : HashSet Key S) (parameters' : BTreeSet (Bor (List ℕ))) (s : SpaceAt) (x : List ℕ)
       (puts : (q : Kind) (o n : List ℕ) → has keys' q o n ≡ (same_parts (kind_of s) (owner_of (space s)) x q o n || has keys q o n))
       (also : (q : List ℕ) → has_text parameters' q ≡ (is_parameter s && bytes_eq x q || has_text parameters q)) where
     put : (t : Space) (y : List ℕ) → has keys' (kind_in t) (owner_of t) y ≡ (same_parts (kind_in (space s)) (owner_of (space s)) x (kind_in t) (owner_of t) y || has keys (kind_in t) (owner_of t) y)
@@ -212,21 +218,21 @@ module _ {S : Type 0} (keys : HashSet Key S) (parameters : HashSet (Bor (List �
           (Contains-push_cases ds (declared (space s) x) (declared (space_parameters e) y) h);
     }
 
-pub front_more : {S : Type 0} (names names' : HashSet (Bor (List ℕ)) S) (front : List (List ℕ)) (x : List ℕ) → HasFront names front → ((q : List ℕ) → has_text names' q ≡ (bytes_eq x q || has_text names q)) → has_text names x ≡ false → HasFront names' (front ++ x ∷ [])
+pub front_more : (names names' : BTreeSet (Bor (List ℕ))) (front : List (List ℕ)) (x : List ℕ) → HasFront names front → ((q : List ℕ) → has_text names' q ≡ (bytes_eq x q || has_text names q)) → has_text names x ≡ false → HasFront names' (front ++ x ∷ [])
 front_more names names' front x h puts none = record {
   apart = apart_more front x h.apart (λ c. let t : true ≡ false = sym (h.has_all x c) ∙ none in cc);
   had = λ y t. ⊎_elim (λ o. subst (λ z. Contains (front ++ x ∷ []) z) ((bytes_eq-Decides x y).0 o) (Contains-push front x)) (λ o. Contains-append_left front (x ∷ []) y (h.had y o)) (or_cases (bytes_eq x y) (has_text names y) (sym (puts y) ∙ t));
   has_all = λ y c. puts y ∙ ⊎_elim (λ o. or_right (bytes_eq x y) (has_text names y) (h.has_all y o)) (λ o. or_left (bytes_eq x y) (has_text names y) ((bytes_eq-Decides x y).1 o)) (Contains-push_cases front x y c);
 }
 
-pub binds_judged : {S : Type 0} (keys : HashSet Key S) (parameters : HashSet (Bor (List ℕ)) S) (before : List Declaration) (xs : List (List ℕ)) (r : Result (Unit {0}) NameFault) → BindsApart xs r → Keeps keys parameters before → Judged before (binds xs) keys parameters r
+pub binds_judged : {S : Type 0} (keys : HashSet Key S) (parameters : BTreeSet (Bor (List ℕ))) (before : List Declaration) (xs : List (List ℕ)) (r : Result (Unit {0}) NameFault) → BindsApart xs r → Keeps keys parameters before → Judged before (binds xs) keys parameters r
 binds_judged keys parameters before xs (Ok u) a k = (keeps_binds keys parameters before k xs, λ name r. a name r.0 r.1 r.2 r.3)
 binds_judged keys parameters before xs (Err (fault.Unsupported place)) a k = a
 binds_judged keys parameters before xs (Err (fault.DuplicateName name)) a k = a
 binds_judged keys parameters before xs (Err (fault.UnknownName name)) a k = a
 binds_judged keys parameters before xs (Err fault.Memory) a k = tt
 
-pub judged_first : {S : Type 0} (keys : HashSet Key S) (parameters : HashSet (Bor (List ℕ)) S) (before rest : List Declaration) (d : Declaration) (all : List Declaration) (e : NameFault) → AreDistinct before → all ≡ before ++ d ∷ rest → Judged before d keys parameters (Err e) → AreJudged all (Err e)
+pub judged_first : {S : Type 0} (keys : HashSet Key S) (parameters : BTreeSet (Bor (List ℕ))) (before rest : List Declaration) (d : Declaration) (all : List Declaration) (e : NameFault) → AreDistinct before → all ≡ before ++ d ∷ rest → Judged before d keys parameters (Err e) → AreJudged all (Err e)
 judged_first keys parameters before rest d all (fault.Unsupported place) a e j = j
 judged_first keys parameters before rest d all (fault.DuplicateName name) a e j = record { before = before; declaration = d; rest = rest; is = e; distinct = a; repeats = j }
 judged_first keys parameters before rest d all (fault.UnknownName name) a e j = j
@@ -235,15 +241,12 @@ judged_first keys parameters before rest d all fault.Memory a e j = tt
 none_in : {A : Type 0} (test : A → Bool) (xs : List A) → xs ≡ [] → list_any test xs ≡ true → ⊥
 none_in test xs e h = let f : list_any test xs ≡ false = ap (list_any test) e in let g : true ≡ false = sym h ∙ f in cc
 
-contains_none : {A : Type 0} (v : A) → Contains [] v → ⊥
-contains_none v h = omega (arith, h.1)
-
-pub judges_none : {S : Type 0} (keys : HashSet Key S) (parameters : HashSet (Bor (List ℕ)) S) → keys.keys ≡ [] → parameters.keys ≡ [] → JudgesFront keys parameters []
+pub judges_none : {S : Type 0} (keys : HashSet Key S) (parameters : BTreeSet (Bor (List ℕ))) → keys.keys ≡ [] → parameters.keys ≡ [] → JudgesFront keys parameters []
 judges_none keys parameters k p = record {
   keeps = record {
     had = λ s x h. absurd (none_in (λ q. sameb the_type (kind_in s) q.kind && (bytes_eq (owner_of s) q.owner.now && bytes_eq x q.name.now)) keys.keys k h);
     has_all = λ s x h. absurd (contains_none (declared s x) h);
-    parameter = λ x h. absurd (none_in (λ q. bytes_eq x q.now) parameters.keys p h);
+    parameter = λ x h. absurd (none_in (λ q. is_at (λ k. slice_cmp nat_cmp x k.now) q) parameters.keys p h);
     parameters_all = λ e x h. absurd (contains_none (declared (space_parameters e) x) h);
   };
   distinct = distinct_none;

@@ -1,22 +1,16 @@
 -- Laws of what is told of used names.
-use Rattle.std.proofs.Common.{◌≡◌, ◌∙◌, ◌∷◌, [], ◌||◌, ◌⊎◌, ℕ, Bool, true, false, List, Option, None, Some, Contains, refl, sym, subst, inl, inr, ⊎_elim, bytes_eq, arith, zero, suc, length, get_or, ◌<◌}
+use Rattle.std.proofs.Common.{◌≡◌, ◌∙◌, ◌∷◌, [], ◌||◌, ℕ, Bool, true, false, List, Option, None, Some, Contains, refl, sym, subst, ⊎_elim, bytes_eq, arith}
 use Rattle.std.proofs.lemmas.Slice.Eq.{bytes_eq-Decides}
 use Rattle.std.proofs.lemmas.List.Elements.{Contains-append_right}
-use Rattle.eb_term.specs.declared.units.EbUnit.{EbUnit}
-use Rattle.eb_term.specs.declared.units.Machine.{Machine}
+use Rattle.eb_syntax.specs.declared.units.EbUnit.{EbUnit}
+use Rattle.eb_syntax.specs.declared.units.Machine.{Machine}
 use Rattle.eb_scoping.specs.FreeNames.{is_among}
 use Rattle.eb_scoping.specs.Models.{machine_of}
 use Rattle.eb_lower.specs.Usages.{IsVariable}
-use Rattle.eb_lower.specs.Facts.{all_variables, machine_variables}
-use Rattle.eb_lower.specs.Known.{Tells}
+use Rattle.eb_lower.specs.steps.Facts.{all_variables, machine_variables}
+use Rattle.eb_lower.specs.steps.Known.{Tells}
+use Rattle.eb_lower.proofs.ListLaws.{contains_cases}
 use Rattle.eb_lower.proofs.KeyLaws.{or_cases, or_left, or_right}
-
-contains_cases : {A : Type 0} (x : A) (xs : List A) (v : A) → Contains (x ∷ xs) v → (x ≡ v) ⊎ Contains xs v
-contains_cases x xs v h = at h.0 h.1 h.2
-  where
-    at : (k : ℕ) → k < length (x ∷ xs) → get_or (x ∷ xs) k v ≡ v → (x ≡ v) ⊎ Contains xs v
-    at zero l e = inl e
-    at (suc k) l e = inr (k, omega (arith, l), e)
 
 pub among_contains : (xs : List (List ℕ)) (q : List ℕ) → is_among xs q ≡ true → Contains xs q
 among_contains [] q h = absurd cc

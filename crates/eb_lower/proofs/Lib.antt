@@ -1,3 +1,4 @@
+mod ListLaws
 mod PlaceLaws
 mod FormulaLaws
 mod KeyLaws

@@ -1,25 +1,25 @@
 -- Laws of the axioms whose names are judged: they are of contexts of the model.
 use Rattle.std.proofs.Common.{◌≡◌, ◌<◌, ◌++◌, ◌∷◌, [], ℕ, zero, suc, Bool, true, false, List, Option, None, Some, length, get_or, map, refl, sym, subst, arith}
 use Rattle.std.specs.List.{flat_map, AllByRecursion}
-use Rattle.eb_term.specs.declared.ast.Ast.{Ast}
-use Rattle.eb_term.specs.declared.units.Context.{Context}
-use Rattle.eb_term.specs.declared.units.ContextClause.{ContextClause}
-use Rattle.eb_term.specs.declared.units.ContextClause.TheVariants as part
-use Rattle.eb_term.specs.declared.units.Machine.{Machine}
-use Rattle.eb_term.specs.declared.units.MachineClause.{MachineClause}
-use Rattle.eb_term.specs.declared.units.MachineClause.TheVariants as clause
-use Rattle.eb_term.specs.declared.units.PredicatesClause.{PredicatesClause}
-use Rattle.eb_term.specs.declared.units.Assignment.{Assignment}
-use Rattle.eb_term.specs.declared.units.Assignment.TheVariants as assign
-use Rattle.eb_term.specs.declared.units.Event.{Event}
-use Rattle.eb_term.specs.declared.units.ScopeSetting.{ScopeSetting}
-use Rattle.eb_term.specs.declared.units.ScopeSetting.TheVariants as setting
-use Rattle.eb_term.specs.declared.units.EbUnit.{EbUnit}
-use Rattle.eb_term.specs.declared.units.EbUnit.TheVariants as eb
+use Rattle.eb_syntax.specs.declared.ast.Ast.{Ast}
+use Rattle.eb_syntax.specs.declared.units.Context.{Context}
+use Rattle.eb_syntax.specs.declared.units.ContextClause.{ContextClause}
+use Rattle.eb_syntax.specs.declared.units.ContextClause.TheVariants as part
+use Rattle.eb_syntax.specs.declared.units.Machine.{Machine}
+use Rattle.eb_syntax.specs.declared.units.MachineClause.{MachineClause}
+use Rattle.eb_syntax.specs.declared.units.MachineClause.TheVariants as clause
+use Rattle.eb_syntax.specs.declared.units.PredicatesClause.{PredicatesClause}
+use Rattle.eb_syntax.specs.declared.units.Assignment.{Assignment}
+use Rattle.eb_syntax.specs.declared.units.Assignment.TheVariants as assign
+use Rattle.eb_syntax.specs.declared.units.Event.{Event}
+use Rattle.eb_syntax.specs.declared.units.ScopeSetting.{ScopeSetting}
+use Rattle.eb_syntax.specs.declared.units.ScopeSetting.TheVariants as setting
+use Rattle.eb_syntax.specs.declared.units.EbUnit.{EbUnit}
+use Rattle.eb_syntax.specs.declared.units.EbUnit.TheVariants as eb
 use Rattle.eb_scoping.specs.FreeNames.{names_of, free}
 use Rattle.eb_scoping.specs.Models.{AreMarked, AreMarkedBehind, IsModelUnit}
 use Rattle.eb_lower.specs.Usages.{Usage, Position, at_context, in_axiom, in_invariant, in_event, at_assigned, usage, at, formula_usages, context_clause_usages, guard_usages, assignment_usages, event_usages, machine_clause_usages, setting_usages, context_usages, machine_usages, unit_usages}
-use Rattle.eb_lower.specs.Known.{IsOfModel, IsPlaced, ArePlaced}
+use Rattle.eb_lower.specs.steps.Known.{IsOfModel, IsPlaced, ArePlaced}
 
 all_at : {A B : Type 0} (P : B → Type 0) (f : A → B) (xs : List A) (i : ℕ) (x : A) → AllByRecursion P (map f xs) → i < length xs → x ≡ get_or xs i x → P (f x)
 all_at P f [] i x a l e = absurd (omega (arith, l))

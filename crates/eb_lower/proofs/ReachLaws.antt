@@ -1,26 +1,29 @@
 -- Laws of the contexts that a context of the model reaches by `extends`.
-use Rattle.std.proofs.Common.{◌≡◌, ◌∙◌, ◌<◌, ◌++◌, ◌∷◌, [], ℕ, zero, suc, Bool, true, false, List, None, Some, bytes_eq, Contains, length, get_or, refl, sym, ap, subst, inl, inr, ⊎_elim, arith, Bor}
-use Rattle.std.specs.List.{list_any}
+use Rattle.std.proofs.Common.{◌≡◌, ◌∙◌, ◌<◌, ◌≤◌, ◌+◌, ◌++◌, ◌∷◌, [], ℕ, zero, suc, Bool, true, false, List, None, Some, Contains, length, take, get_or, refl, sym, ap, subst, inl, inr, ⊎_elim, arith, Bor, IsTrue, ◌↔◌}
 use Rattle.std.specs.Global.{Vec}
 use Rattle.std.specs.Option.{option_map_or}
-use Rattle.std.specs.HashMap.{HashMap, get_by}
-use Rattle.std.proofs.lemmas.List.{get_or_default}
-use Rattle.eb_term.specs.declared.units.Context.{Context}
-use Rattle.eb_term.specs.declared.units.EbUnit.{EbUnit}
-use Rattle.eb_term.specs.declared.units.EbUnit.TheVariants as eb
+use Rattle.std.specs.BTreeMap.{BTreeMap, get_by}
+use Rattle.std.specs.Ordering.{nat_cmp}
+use Rattle.std.specs.Cmp.Lexicographic.{slice_cmp}
+use Rattle.std.proofs.lemmas.List.{get_or_default, take_more, take_all}
+use Rattle.std.proofs.lemmas.List.Elements.{Contains-get_or, Contains-append_cases}
+use Rattle.eb_syntax.specs.declared.units.Context.{Context}
+use Rattle.eb_syntax.specs.declared.units.EbUnit.{EbUnit}
+use Rattle.eb_syntax.specs.declared.units.EbUnit.TheVariants as eb
 use Rattle.eb_scoping.specs.Models.{AreMarked, AreMarkedBehind, IsModelUnit, r_extended, Extends, extends_none, extends_more}
-use Rattle.eb_scoping.specs.Walks.{IsContextAt, AreExtendedMarked}
-use Rattle.eb_scoping.specs.Groups.{group}
+use Rattle.eb_scoping.specs.Groups.{group, IsContextAt}
 use Rattle.eb_scoping.specs.FreeNames.{used}
+use Rattle.std.specs.Result.{IfOk}
+use Rattle.std.specs.declared.result.Result.{Result}
+use Rattle.std.specs.declared.result.Result.TheVariants.{Ok, Err}
+use Rattle.eb_scoping.specs.declared.contexts.Walk.{Walk}
+use Rattle.eb_scoping.specs.Walks.{IsWalk}
 use Rattle.eb_lower.specs.Usages.{in_axiom, IsKnownAt}
-use Rattle.eb_lower.specs.Facts.{AreStatics}
-use Rattle.eb_lower.specs.Known.{Tells, IsOfModel}
-use Rattle.eb_lower.proofs.KeyLaws.{or_cases, or_left, or_right}
+use Rattle.eb_lower.specs.steps.Facts.{AreStatics}
+use Rattle.eb_lower.specs.steps.Known.{Tells, IsOfModel, ExtendsAt, ExtendsOne}
+use Rattle.eb_lower.proofs.ListLaws.{contains_none, contains_cases}
 use Rattle.eb_lower.proofs.UnitLaws.{marks_length}
 use Rattle.eb_lower.proofs.StaticPlaces.{static_at, at_static}
-
-none_in : {A : Type 0} (v : A) → Contains [] v → ⊥
-none_in v h = omega (arith, h.1)
 
 pub of_model_extends : (us : List EbUnit) (x y : List ℕ) → IsOfModel us x → Extends us x y → IsOfModel us y
 of_model_extends us x _ m extends_none = m
@@ -33,21 +36,6 @@ context_marked us before (v ∷ vs) [] i c m l e o = absurd m
 context_marked us before (v ∷ vs) (b ∷ bs) zero c m l e o = m.1 (subst (IsModelUnit us before) e o)
 context_marked us before (v ∷ vs) (b ∷ bs) (suc i) c m l e o = context_marked us (before ++ v ∷ []) vs bs i c m.2 (omega (arith, l)) e o
 
-pub any_found : (f : ℕ → Bool) (xs : List ℕ) → list_any f xs ≡ true → (i : ℕ) × Contains xs i × (f i ≡ true)
-any_found f [] h = absurd cc
-any_found f (x ∷ xs) h = ⊎_elim
-    (λ e. (x, (0, omega arith, refl), e))
-    (λ o. let r = any_found f xs o in (r.0, (suc r.1.0, (let l = r.1.1 in omega (arith, l)), r.1.2), r.2))
-    (or_cases (f x) (list_any f xs) h)
-
-any_at : (f : ℕ → Bool) (xs : List ℕ) (k i : ℕ) → k < length xs → get_or xs k i ≡ i → f i ≡ true → list_any f xs ≡ true
-any_at f [] k i l e t = absurd (omega (arith, l))
-any_at f (x ∷ xs) zero i l e t = or_left (f x) (list_any f xs) (ap f e ∙ t)
-any_at f (x ∷ xs) (suc k) i l e t = or_right (f x) (list_any f xs) (any_at f xs k i (omega (arith, l)) e t)
-
-pub found_any : (f : ℕ → Bool) (xs : List ℕ) (i : ℕ) → Contains xs i → f i ≡ true → list_any f xs ≡ true
-found_any f xs i h t = any_at f xs h.0 i h.1 h.2 t
-
 -- a context that stands at a place of the text
 placed_context : (us : List EbUnit) (c : Context) (h : Contains us (eb.Context c)) → IsContextAt us h.0 c.name.name
 placed_context us c h = record { context = c; inside = h.1; is = sym h.2; named = refl }
@@ -55,13 +43,46 @@ placed_context us c h = record { context = c; inside = h.1; is = sym h.2; named 
 context_same : (c d : Context) → eb.Context c ≡ eb.Context d → c ≡ d
 context_same c d h = cc
 
-pub group_none : {S : Type 0} (m : HashMap (Bor (List ℕ)) (Vec ℕ) S) (q p : List ℕ) → p ≡ q → None ≡ get_by (λ k. bytes_eq p k.now) m → group m q ≡ []
+-- whether the context at a place is reached
+pub tells_at : (us : List EbUnit) (from : List ℕ) (i : ℕ) (c : Context) (found : Bool) → i < length us → eb.Context c ≡ get_or us i (eb.Context c) → Tells found (Extends us from c.name.name) → Tells found (ExtendsAt us from i)
+tells_at us from i c found l e t = (
+  λ y. (c.name.name, record { context = c; inside = l; is = e; named = refl }, t.0 y),
+  λ k. let a = k.1 in let same : a.context ≡ c = context_same a.context c (a.is ∙ (get_or_default us i (eb.Context a.context) (eb.Context c) l ∙ sym e)) in
+      t.1 (subst (λ z. Extends us from z) (sym a.named ∙ ap (λ z. z.name.name) same) k.2),
+)
+
+-- where another unit stands none is
+pub none_at : (us : List EbUnit) (from : List ℕ) (i : ℕ) (u : EbUnit) → u ≡ get_or us i u → ((c : Context) → u ≡ eb.Context c → ⊥) → Tells false (ExtendsAt us from i)
+none_at us from i u e other = (λ y. absurd cc, λ k. let a = k.1 in absurd (other a.context (e ∙ (get_or_default us i u (eb.Context a.context) a.inside ∙ sym a.is))))
+
+pub none_past : (us : List EbUnit) (from : List ℕ) (i : ℕ) → length us ≤ i → Tells false (ExtendsAt us from i)
+none_past us from i l = (λ y. absurd cc, λ k. let a = k.1 in let h = a.inside in absurd (omega (arith, h, l)))
+
+-- whether one of some places has such a context
+module _ (us : List EbUnit) (from places : List ℕ) where
+  pub none_first : ExtendsOne us from (take 0 places) → ⊥
+  none_first h = contains_none h.0 h.1
+
+  pub none_more : (i : ℕ) → i < length places → (ExtendsOne us from (take i places) → ⊥) → Tells false (ExtendsAt us from (get_or places i 0)) → ExtendsOne us from (take (i + 1) places) → ⊥
+  none_more i l before t h = ⊎_elim
+      (λ o. before (h.0, o, h.2))
+      (λ o. let at : h.0 ≡ get_or places i 0 = ⊎_elim (λ e. sym e) (λ n. absurd (contains_none h.0 n)) (contains_cases (get_or places i 0) [] h.0 o) in
+      let none : false ≡ true = t.1 (subst (λ z. ExtendsAt us from z) at h.2) in cc)
+      (Contains-append_cases (take i places) (get_or places i 0 ∷ []) h.0 (subst (λ z. Contains z h.0) (take_more places i 0 l) h.1))
+
+  pub found_one : (i : ℕ) → i < length places → Tells true (ExtendsAt us from (get_or places i 0)) → Tells true (ExtendsOne us from places)
+  found_one i l t = (λ y. (get_or places i 0, Contains-get_or places i 0 l, t.0 refl), λ k. refl)
+
+  pub found_none : (i : ℕ) → length places ≤ i → (ExtendsOne us from (take i places) → ⊥) → Tells false (ExtendsOne us from places)
+  found_none i l none = (λ y. absurd cc, λ k. absurd (none (subst (λ z. ExtendsOne us from z) (sym (take_all i places l)) k)))
+
+pub group_none : (m : BTreeMap (Bor (List ℕ)) (Vec ℕ)) (q p : List ℕ) → p ≡ q → None ≡ get_by (λ k. slice_cmp nat_cmp p k.now) m → group m q ≡ []
 group_none m q p e f = ap (group m) (sym e) ∙ ap (λ o. option_map_or (λ g. g.items) o []) (sym f)
 
-pub group_some : {S : Type 0} (m : HashMap (Bor (List ℕ)) (Vec ℕ) S) (q p : List ℕ) (v : Vec ℕ) → p ≡ q → Some v ≡ get_by (λ k. bytes_eq p k.now) m → group m q ≡ v.items
+pub group_some : (m : BTreeMap (Bor (List ℕ)) (Vec ℕ)) (q p : List ℕ) (v : Vec ℕ) → p ≡ q → Some v ≡ get_by (λ k. slice_cmp nat_cmp p k.now) m → group m q ≡ v.items
 group_some m q p v e f = ap (group m) (sym e) ∙ ap (λ o. option_map_or (λ g. g.items) o []) (sym f)
 
-module _ {S : Type 0} (us : List EbUnit) (marks : List Bool) (m : HashMap (Bor (List ℕ)) (Vec ℕ) S) (c : Context) (used_name : List ℕ) (is_primed : Bool)
+module _ (us : List EbUnit) (marks : List Bool) (m : BTreeMap (Bor (List ℕ)) (Vec ℕ)) (c : Context) (used_name : List ℕ) (is_primed : Bool)
     (are : AreMarked us us marks) (by : AreStatics us marks m) (of_model : IsOfModel us c.name.name) (plain : is_primed ≡ false) where
   -- what is asked of a name in an axiom
   abbrev Known : Type 0
@@ -72,9 +93,6 @@ module _ {S : Type 0} (us : List EbUnit) (marks : List Bool) (m : HashMap (Bor (
       let p = static_at us marks m used_name i by h in
       let same : p.context ≡ a.context = context_same p.context a.context (sym (p.at (eb.Context a.context)) ∙ sym a.is) in
       (plain, p.context, (i, p.within, p.at (eb.Context p.context)), subst (λ z. Extends us c.name.name z) (sym (ap (λ z. z.name.name) same ∙ a.named)) e, p.has)
-
-  pub tells_own : (i : ℕ) → Contains (group m used_name) i → IsContextAt us i c.name.name → Tells true Known
-  tells_own i h a = (λ t. known_at i c.name.name h a extends_none, λ k. refl)
 
   -- the place of a context that makes the name known
   known_place : (k : Known) → Contains (group m used_name) k.2.0
@@ -87,18 +105,20 @@ module _ {S : Type 0} (us : List EbUnit) (marks : List Bool) (m : HashMap (Bor (
   })
 
   pub tells_none : group m used_name ≡ [] → Tells false Known
-  tells_none e = (λ t. absurd cc, λ k. absurd (none_in k.2.0 (subst (λ z. Contains z k.2.0) e (known_place k))))
+  tells_none e = (λ t. absurd cc, λ k. absurd (contains_none k.2.0 (subst (λ z. Contains z k.2.0) e (known_place k))))
 
-  module _ (from : List ℕ) (extended : List Bool) (same : from ≡ c.name.name) (x : AreExtendedMarked us from extended) where
-    known_marked : (i : ℕ) → Contains (group m used_name) i → get_or extended i false ≡ true → Known
-    known_marked i h t =
-        let p = static_at us marks m used_name i by h in
-        let a : IsContextAt us i p.context.name.name = record { context = p.context; inside = p.within; is = sym (p.at (eb.Context p.context)); named = refl } in
-        known_at i p.context.name.name h a (subst (λ z. Extends us z p.context.name.name) same (x.sound i p.context.name.name a t))
+  pub tells_reached : (from places : List ℕ) (r : Bool) → from ≡ c.name.name → places ≡ group m used_name → Tells r (ExtendsOne us from places) → Tells r Known
+  tells_reached from places r same here t = (
+    λ y. let f = t.0 y in known_at f.0 f.2.0 (subst (λ z. Contains z f.0) here f.1) f.2.1 (subst (λ z. Extends us z f.2.0) same f.2.2),
+    λ k. t.1 (k.2.0, subst (λ z. Contains z k.2.0) (sym here) (known_place k), (k.1.name.name, placed_context us k.1 k.2, subst (λ z. Extends us z k.1.name.name) (sym same) k.3)),
+  )
 
-    pub tells_extended : (r : Bool) → r ≡ list_any (λ i. get_or extended i false) (group m used_name) → Tells r Known
-    tells_extended r e = (
-      λ t. let f = any_found (λ i. get_or extended i false) (group m used_name) (sym e ∙ t) in known_marked f.0 f.1 f.2,
-      λ k. e ∙ found_any (λ i. get_or extended i false) (group m used_name) k.2.0 (known_place k)
-          (x.complete k.2.0 k.1.name.name (placed_context us k.1 k.2) (subst (λ z. Extends us z k.1.name.name) (sym same) k.3)),
-    )
+-- the answers of calls that may want memory
+pub place_tells : {E : Type 0} (us : List EbUnit) (a : Walk) (i : ℕ) (c : Context) (name : List ℕ) (r : Result Bool E) → i < length us → eb.Context c ≡ get_or us i (eb.Context c) → name ≡ c.name.name
+    → IfOk r (λ found. (from : List ℕ) → IsWalk us (from ∷ []) a → IsTrue found ↔ Extends us from name) → IfOk r (λ found. (from : List ℕ) → IsWalk us (from ∷ []) a → Tells found (ExtendsAt us from i))
+place_tells us a i c name (Ok found) l e n h = λ from w. tells_at us from i c found l e (subst (λ z. Tells found (Extends us from z)) n (h from w))
+place_tells us a i c name (Err x) l e n h = tt
+
+pub walk_any : {E : Type 0} (us : List EbUnit) (first : List (List ℕ)) (r : Result Walk E) → IfOk r (λ w. (us : List EbUnit) → IsWalk us first w) → IfOk r (IsWalk us first)
+walk_any us first (Ok w) h = h us
+walk_any us first (Err x) h = tt

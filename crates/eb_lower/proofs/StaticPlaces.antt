@@ -1,18 +1,19 @@
 -- Where the carrier sets and constants of the model stand, by the places that a map has.
-use Rattle.std.proofs.Common.{◌≡◌, ◌∙◌, ◌+◌, ◌<◌, ◌⊎◌, ◌++◌, ◌∷◌, [], ℕ, zero, suc, Bool, true, false, cond, List, Contains, length, get_or, map, filter, sym, ap, refl, subst, arith, inl, inr, ⊎_elim, bytes_eq, Bor}
+use Rattle.std.proofs.Common.{◌≡◌, ◌∙◌, ◌+◌, ◌<◌, ◌++◌, ◌∷◌, [], ℕ, zero, suc, Bool, true, false, List, Contains, length, get_or, filter, sym, ap, refl, subst, arith, ⊎_elim, bytes_eq, Bor}
 use Rattle.std.specs.List.{flat_map}
 use Rattle.std.specs.Global.{Vec}
-use Rattle.std.specs.HashMap.{HashMap}
+use Rattle.std.specs.BTreeMap.{BTreeMap}
 use Rattle.std.proofs.lemmas.List.{map-append}
 use Rattle.std.proofs.lemmas.List.Elements.{Contains-append_cases, Contains-append_left, Contains-append_right}
 use Rattle.std.proofs.lemmas.Slice.Eq.{bytes_eq-Decides}
-use Rattle.eb_term.specs.declared.units.Context.{Context}
-use Rattle.eb_term.specs.declared.units.ContextClause.{ContextClause}
-use Rattle.eb_term.specs.declared.units.EbUnit.{EbUnit}
-use Rattle.eb_term.specs.declared.units.EbUnit.TheVariants as eb
+use Rattle.eb_syntax.specs.declared.units.Context.{Context}
+use Rattle.eb_syntax.specs.declared.units.ContextClause.{ContextClause}
+use Rattle.eb_syntax.specs.declared.units.EbUnit.{EbUnit}
+use Rattle.eb_syntax.specs.declared.units.EbUnit.TheVariants as eb
 use Rattle.eb_scoping.specs.Groups.{group}
 use Rattle.eb_lower.specs.Usages.{statics, clause_statics}
-use Rattle.eb_lower.specs.Facts.{AreStatics, all_heads, static_heads, heads_at}
+use Rattle.eb_lower.proofs.ListLaws.{contains_none, contains_map, map_contains, filter_keeps, filter_kept}
+use Rattle.eb_lower.specs.steps.Facts.{AreStatics, all_heads, static_heads, heads_at}
 
 -- the context at this place of the text is of the model and has this carrier set or constant
 pub record IsStaticPlace (us : List EbUnit) (marks : List Bool) (name : List ℕ) (i : ℕ) : Type 0 where
@@ -21,56 +22,6 @@ pub record IsStaticPlace (us : List EbUnit) (marks : List Bool) (name : List ℕ
   pub at : (u : EbUnit) → get_or us i u ≡ eb.Context context
   pub is_marked : get_or marks i false ≡ true
   pub has : Contains (statics context) name
-
-pub contains_none : {A : Type 0} (v : A) → Contains [] v → ⊥
-contains_none v h = omega (arith, h.1)
-
-contains_here : {A : Type 0} (x : A) (xs : List A) → Contains (x ∷ xs) x
-contains_here x xs = (0, omega arith, refl)
-
-pub contains_there : {A : Type 0} (x : A) (xs : List A) (v : A) → Contains xs v → Contains (x ∷ xs) v
-contains_there x xs v h = Contains-append_right (x ∷ []) xs v h
-
-pub contains_cases : {A : Type 0} (x : A) (xs : List A) (v : A) → Contains (x ∷ xs) v → (x ≡ v) ⊎ Contains xs v
-contains_cases x xs v (zero, l, e) = inl e
-contains_cases x xs v (suc k, l, e) = inr (k, omega (arith, l), e)
-
-contains_map : {A B : Type 0} (f : A → B) (xs : List A) (v : B) → Contains (map f xs) v → (x : A) × Contains xs x × (f x ≡ v)
-contains_map f [] v h = absurd (contains_none v h)
-contains_map f (x ∷ xs) v h = ⊎_elim
-    (λ e. (x, contains_here x xs, e))
-    (λ m. let r = contains_map f xs v m in (r.0, contains_there x xs r.0 r.1, r.2))
-    (contains_cases (f x) (map f xs) v h)
-
-map_contains : {A B : Type 0} (f : A → B) (xs : List A) (x : A) → Contains xs x → Contains (map f xs) (f x)
-map_contains f [] x h = absurd (contains_none x h)
-map_contains f (y ∷ xs) x h = ⊎_elim
-    (λ e. subst (λ z. Contains (f y ∷ map f xs) (f z)) e (contains_here (f y) (map f xs)))
-    (λ m. contains_there (f y) (map f xs) (f x) (map_contains f xs x m))
-    (contains_cases y xs x h)
-
--- what a filter keeps
-filter_keeps : {A : Type 0} (p : A → Bool) (xs : List A) (x : A) → Contains xs x → p x ≡ true → Contains (filter p xs) x
-filter_keeps p [] x h t = absurd (contains_none x h)
-filter_keeps p (y ∷ xs) x h t = ⊎_elim
-    (λ e. subst (λ b. Contains (cond b (y ∷ filter p xs) (filter p xs)) x) (sym (ap p e ∙ t)) (subst (λ z. Contains (y ∷ filter p xs) z) e (contains_here y (filter p xs))))
-    (λ m. behind (p y) (filter_keeps p xs x m t))
-    (contains_cases y xs x h)
-  where
-    behind : (b : Bool) → Contains (filter p xs) x → Contains (cond b (y ∷ filter p xs) (filter p xs)) x
-    behind true m = contains_there y (filter p xs) x m
-    behind false m = m
-
-filter_split : {A : Type 0} (p : A → Bool) (y : A) (xs : List A) (x : A) (b : Bool) → p y ≡ b → (Contains (filter p xs) x → Contains xs x × (p x ≡ true)) → Contains (cond b (y ∷ filter p xs) (filter p xs)) x → Contains (y ∷ xs) x × (p x ≡ true)
-filter_split p y xs x true e ih m = ⊎_elim
-    (λ s. (subst (λ z. Contains (y ∷ xs) z) s (contains_here y xs), ap p (sym s) ∙ e))
-    (λ n. let r = ih n in (contains_there y xs x r.0, r.1))
-    (contains_cases y (filter p xs) x m)
-filter_split p y xs x false e ih m = let r = ih m in (contains_there y xs x r.0, r.1)
-
-filter_kept : {A : Type 0} (p : A → Bool) (xs : List A) (x : A) → Contains (filter p xs) x → Contains xs x × (p x ≡ true)
-filter_kept p [] x h = absurd (contains_none x h)
-filter_kept p (y ∷ xs) x h = filter_split p y xs x (p y) refl (filter_kept p xs x) h
 
 heads_flat : (place : ℕ) (ks : List ContextClause) → flat_map (λ k. heads_at place (clause_statics k)) ks ≡ heads_at place (flat_map clause_statics ks)
 heads_flat place [] = refl
@@ -124,7 +75,7 @@ in_places (u ∷ us) (b ∷ bs) place name (suc i) l p =
     (Contains-append_right (static_heads u b place) (all_heads (place + 1) us bs) (name, (place + 1) + i)
     (in_places us bs (place + 1) name i (omega (arith, l)) (record { context = p.context; within = omega (arith, w); at = p.at; is_marked = p.is_marked; has = p.has })))
 
-pub static_at : {S : Type 0} (us : List EbUnit) (marks : List Bool) (m : HashMap (Bor (List ℕ)) (Vec ℕ) S) (name : List ℕ) (i : ℕ) → AreStatics us marks m → Contains (group m name) i → IsStaticPlace us marks name i
+pub static_at : (us : List EbUnit) (marks : List Bool) (m : BTreeMap (Bor (List ℕ)) (Vec ℕ)) (name : List ℕ) (i : ℕ) → AreStatics us marks m → Contains (group m name) i → IsStaticPlace us marks name i
 static_at us marks m name i a h =
     let hs = all_heads 0 us marks in
     let r = contains_map (λ p. p.1) (filter (λ p. bytes_eq name p.0) hs) i (subst (λ z. Contains z i) (a name) h) in
@@ -135,7 +86,7 @@ static_at us marks m name i a h =
     let n : p.0 ≡ i = omega (arith, e) in
     subst (λ z. IsStaticPlace us marks name z) n p.2
 
-pub at_static : {S : Type 0} (us : List EbUnit) (marks : List Bool) (m : HashMap (Bor (List ℕ)) (Vec ℕ) S) (name : List ℕ) (i : ℕ) → length marks ≡ length us → AreStatics us marks m → IsStaticPlace us marks name i → Contains (group m name) i
+pub at_static : (us : List EbUnit) (marks : List Bool) (m : BTreeMap (Bor (List ℕ)) (Vec ℕ)) (name : List ℕ) (i : ℕ) → length marks ≡ length us → AreStatics us marks m → IsStaticPlace us marks name i → Contains (group m name) i
 at_static us marks m name i l a p =
     let hs = all_heads 0 us marks in
     let n : 0 + i ≡ i = omega arith in

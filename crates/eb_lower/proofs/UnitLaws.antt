@@ -1,7 +1,7 @@
 -- Laws of lists over units with their marks.
 use Rattle.std.proofs.Common.{◌≡◌, ◌∙◌, ◌++◌, ◌∷◌, [], ◌+◌, ◌<◌, ◌≤◌, ℕ, zero, suc, Bool, List, take, drop, get_or, length, true, false, refl, sym, ap, arith, append_assoc, append-nil}
 use Rattle.std.proofs.lemmas.List.{take_all}
-use Rattle.eb_term.specs.declared.units.EbUnit.{EbUnit}
+use Rattle.eb_syntax.specs.declared.units.EbUnit.{EbUnit}
 use Rattle.eb_scoping.specs.Models.{AreMarkedBehind}
 use Rattle.eb_lower.specs.Usages.{Usage, usages, unit_usages}
 use Rattle.eb_lower.specs.Declarations.{declarations, unit_declarations}

@@ -1,27 +1,27 @@
 -- What a text declares, in the order of the text, and which of these declarations repeat an earlier one.
 use Rattle.std.specs.Prelude.{ℕ, ◌≡◌, Bool, List, [], ◌∷◌, ◌++◌, Option, None, Some, Contains, map, if◌then◌else◌, codes}
 use Rattle.std.specs.List.{flat_map}
-use Rattle.eb_term.specs.declared.ast.Ast.{Ast}
-use Rattle.eb_term.specs.declared.units.LabelledPredicate.{LabelledPredicate}
-use Rattle.eb_term.specs.declared.units.NamesClause.{NamesClause}
-use Rattle.eb_term.specs.declared.units.PredicatesClause.{PredicatesClause}
-use Rattle.eb_term.specs.declared.units.Assignment.{Assignment}
-use Rattle.eb_term.specs.declared.units.Assignment.TheVariants as assign
-use Rattle.eb_term.specs.declared.units.Event.{Event}
-use Rattle.eb_term.specs.declared.units.ContextClause.{ContextClause}
-use Rattle.eb_term.specs.declared.units.ContextClause.TheVariants as part
-use Rattle.eb_term.specs.declared.units.MachineClause.{MachineClause}
-use Rattle.eb_term.specs.declared.units.MachineClause.TheVariants as clause
-use Rattle.eb_term.specs.declared.units.ScopeSetting.{ScopeSetting}
-use Rattle.eb_term.specs.declared.units.ScopeSetting.TheVariants as setting
-use Rattle.eb_term.specs.declared.units.Context.{Context}
-use Rattle.eb_term.specs.declared.units.Machine.{Machine}
-use Rattle.eb_term.specs.declared.units.ScopeBlock.{ScopeBlock}
-use Rattle.eb_term.specs.declared.units.EbUnit.{EbUnit}
-use Rattle.eb_term.specs.declared.units.EbUnit.TheVariants as eb
-use Rattle.eb_term.specs.declared.ast.Node.{Node-F}
-use Rattle.eb_term.specs.declared.ast.Node.TheOpen as form
-use Rattle.eb_term.specs.Asts.{by_parts}
+use Rattle.eb_syntax.specs.declared.ast.Ast.{Ast}
+use Rattle.eb_syntax.specs.declared.units.LabelledPredicate.{LabelledPredicate}
+use Rattle.eb_syntax.specs.declared.units.NamesClause.{NamesClause}
+use Rattle.eb_syntax.specs.declared.units.PredicatesClause.{PredicatesClause}
+use Rattle.eb_syntax.specs.declared.units.Assignment.{Assignment}
+use Rattle.eb_syntax.specs.declared.units.Assignment.TheVariants as assign
+use Rattle.eb_syntax.specs.declared.units.Event.{Event}
+use Rattle.eb_syntax.specs.declared.units.ContextClause.{ContextClause}
+use Rattle.eb_syntax.specs.declared.units.ContextClause.TheVariants as part
+use Rattle.eb_syntax.specs.declared.units.MachineClause.{MachineClause}
+use Rattle.eb_syntax.specs.declared.units.MachineClause.TheVariants as clause
+use Rattle.eb_syntax.specs.declared.units.ScopeSetting.{ScopeSetting}
+use Rattle.eb_syntax.specs.declared.units.ScopeSetting.TheVariants as setting
+use Rattle.eb_syntax.specs.declared.units.Context.{Context}
+use Rattle.eb_syntax.specs.declared.units.Machine.{Machine}
+use Rattle.eb_syntax.specs.declared.units.ScopeBlock.{ScopeBlock}
+use Rattle.eb_syntax.specs.declared.units.EbUnit.{EbUnit}
+use Rattle.eb_syntax.specs.declared.units.EbUnit.TheVariants as eb
+use Rattle.eb_syntax.specs.declared.ast.Node.{Node-F}
+use Rattle.eb_syntax.specs.declared.ast.Node.TheOpen as form
+use Rattle.eb_syntax.specs.Asts.{by_parts}
 use Rattle.eb_scoping.specs.FreeNames.{names_of, bound_names}
 
 -- Where a name stands alone. An event or context that a space belongs to is given by its name.

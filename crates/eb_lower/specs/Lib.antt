@@ -1,10 +1,5 @@
 pub mod Unsupported
 pub mod Declarations
-pub mod Seen
-pub mod Keys
 pub mod Usages
-pub mod Positions
-pub mod Facts
-pub mod Known
-pub mod Answers
 pub mod Names
+pub mod steps

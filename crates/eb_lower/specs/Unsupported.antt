@@ -1,16 +1,16 @@
 -- The places of what a text may have and no model of this program can: refinement and witnesses.
 use Rattle.std.specs.Prelude.{ℕ, ◌≡◌, ⊤, Bool, List, [], ◌∷◌, ◌++◌, Option, None, Some, if◌then◌else◌, bytes_eq, codes}
 use Rattle.std.specs.List.{flat_map}
-use Rattle.eb_term.specs.declared.units.NamesClause.{NamesClause}
-use Rattle.eb_term.specs.declared.units.PredicatesClause.{PredicatesClause}
-use Rattle.eb_term.specs.declared.units.Inheritance.{Inheritance}
-use Rattle.eb_term.specs.declared.units.Inheritance.TheVariants as inherits
-use Rattle.eb_term.specs.declared.units.Refinement.{Refinement}
-use Rattle.eb_term.specs.declared.units.Event.{Event}
-use Rattle.eb_term.specs.declared.units.MachineClause.{MachineClause}
-use Rattle.eb_term.specs.declared.units.MachineClause.TheVariants as clause
-use Rattle.eb_term.specs.declared.units.EbUnit.{EbUnit}
-use Rattle.eb_term.specs.declared.units.EbUnit.TheVariants as eb
+use Rattle.eb_syntax.specs.declared.units.NamesClause.{NamesClause}
+use Rattle.eb_syntax.specs.declared.units.PredicatesClause.{PredicatesClause}
+use Rattle.eb_syntax.specs.declared.units.Inheritance.{Inheritance}
+use Rattle.eb_syntax.specs.declared.units.Inheritance.TheVariants as inherits
+use Rattle.eb_syntax.specs.declared.units.Refinement.{Refinement}
+use Rattle.eb_syntax.specs.declared.units.Event.{Event}
+use Rattle.eb_syntax.specs.declared.units.MachineClause.{MachineClause}
+use Rattle.eb_syntax.specs.declared.units.MachineClause.TheVariants as clause
+use Rattle.eb_syntax.specs.declared.units.EbUnit.{EbUnit}
+use Rattle.eb_syntax.specs.declared.units.EbUnit.TheVariants as eb
 
 -- the first of these places, if there is one
 abbrev pub IsFirstOf : List ℕ → Option ℕ → Type 0

@@ -1,22 +1,22 @@
 -- Where a text uses names of declarations, in the order of the text, and which of these names are known there.
 use Rattle.std.specs.Prelude.{ℕ, ◌≡◌, ◌⊎◌, Bool, true, false, List, [], ◌∷◌, ◌++◌, Option, None, Some, Contains, map, if◌then◌else◌, codes}
 use Rattle.std.specs.List.{flat_map}
-use Rattle.eb_term.specs.declared.ast.Ast.{Ast}
-use Rattle.eb_term.specs.declared.ast.Identifier.{Identifier}
-use Rattle.eb_term.specs.declared.units.PredicatesClause.{PredicatesClause}
-use Rattle.eb_term.specs.declared.units.Assignment.{Assignment}
-use Rattle.eb_term.specs.declared.units.Assignment.TheVariants as assign
-use Rattle.eb_term.specs.declared.units.Event.{Event}
-use Rattle.eb_term.specs.declared.units.Context.{Context}
-use Rattle.eb_term.specs.declared.units.Machine.{Machine}
-use Rattle.eb_term.specs.declared.units.ContextClause.{ContextClause}
-use Rattle.eb_term.specs.declared.units.ContextClause.TheVariants as part
-use Rattle.eb_term.specs.declared.units.MachineClause.{MachineClause}
-use Rattle.eb_term.specs.declared.units.MachineClause.TheVariants as clause
-use Rattle.eb_term.specs.declared.units.ScopeSetting.{ScopeSetting}
-use Rattle.eb_term.specs.declared.units.ScopeSetting.TheVariants as setting
-use Rattle.eb_term.specs.declared.units.EbUnit.{EbUnit}
-use Rattle.eb_term.specs.declared.units.EbUnit.TheVariants as eb
+use Rattle.eb_syntax.specs.declared.ast.Ast.{Ast}
+use Rattle.eb_syntax.specs.declared.ast.Identifier.{Identifier}
+use Rattle.eb_syntax.specs.declared.units.PredicatesClause.{PredicatesClause}
+use Rattle.eb_syntax.specs.declared.units.Assignment.{Assignment}
+use Rattle.eb_syntax.specs.declared.units.Assignment.TheVariants as assign
+use Rattle.eb_syntax.specs.declared.units.Event.{Event}
+use Rattle.eb_syntax.specs.declared.units.Context.{Context}
+use Rattle.eb_syntax.specs.declared.units.Machine.{Machine}
+use Rattle.eb_syntax.specs.declared.units.ContextClause.{ContextClause}
+use Rattle.eb_syntax.specs.declared.units.ContextClause.TheVariants as part
+use Rattle.eb_syntax.specs.declared.units.MachineClause.{MachineClause}
+use Rattle.eb_syntax.specs.declared.units.MachineClause.TheVariants as clause
+use Rattle.eb_syntax.specs.declared.units.ScopeSetting.{ScopeSetting}
+use Rattle.eb_syntax.specs.declared.units.ScopeSetting.TheVariants as setting
+use Rattle.eb_syntax.specs.declared.units.EbUnit.{EbUnit}
+use Rattle.eb_syntax.specs.declared.units.EbUnit.TheVariants as eb
 use Rattle.eb_scoping.specs.FreeNames.{Use, used, free, names_of}
 use Rattle.eb_scoping.specs.Models.{machine_of, marked, Extends}
 use Rattle.eb_lower.specs.Unsupported.{is_initialisation}

@@ -3,14 +3,14 @@ ghost use Rattle.std.specs.Prelude.{[], ◌∷◌, ◌≡◌, ◌++◌, OnOk, If
 ghost use Rattle.std.specs.List.{flat_map};
 ghost use Rattle.eb_scoping.specs.FreeNames.{names_of, bound_names};
 ghost use Rattle.eb_lower.specs.Declarations as spec;
-ghost use Rattle.eb_lower.specs.Seen as seen;
+ghost use Rattle.eb_lower.specs.steps.Seen as seen;
 
-use eb_term::{
+use eb_names::Name;
+use eb_syntax::{
     Action, Assignment, Ast, Bound, Context, ContextClause, EbUnit, Event, Identifier,
     LabelledPredicate, Machine, MachineClause, Mark, NamesClause, Node, PredicatesClause,
     ScopeBlock, ScopeSetting,
 };
-use eb_value::Name;
 use std::alloc::{AllocError, Global};
 
 /// Where a name stands alone. An event or context that a space belongs to is given by its name.

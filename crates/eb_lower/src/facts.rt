@@ -1,34 +1,38 @@
 //! What the names of a text may stand for, in maps that find it at once.
-ghost use Rattle.std.specs.Prelude.{[], ◌∷◌, ◌≡◌, ◌++◌, ◌||◌, ℕ, List, Bool, OnOk, IfOk, map, length, bytes_eq, filter, true, false, option_map};
+ghost use Rattle.std.specs.Prelude.{[], ◌∷◌, ◌≡◌, ◌++◌, ◌||◌, ℕ, List, Bool, OnOk, IfOk, map, length, bytes_eq, filter, false};
 ghost use Rattle.std.specs.List.{flat_map, list_any};
 ghost use Rattle.eb_scoping.specs.FreeNames.{names_of, is_among};
-ghost use Rattle.eb_scoping.specs.Models.{machine_of};
 ghost use Rattle.eb_lower.specs.Usages as spec;
-ghost use Rattle.eb_lower.specs.Facts as facts;
-ghost use Rattle.eb_lower.specs.Keys.{has_text};
+ghost use Rattle.eb_lower.specs.steps.Facts as facts;
+ghost use Rattle.eb_scoping.specs.Sets.{has_text};
 
-use super::repeats::insert_name;
-use eb_scoping::{Groups, context_places, grouped};
-use eb_term::{ContextClause, EbUnit, Identifier, Machine, MachineClause};
+use eb_scoping::{Groups, NameSet, context_places, grouped, insert_name, machine};
+use eb_syntax::{Assignment, ContextClause, EbUnit, Event, Identifier, MachineClause};
 use std::alloc::{AllocError, Global};
-use std::collections::HashSet;
+use std::collections::{BTreeMap, BTreeSet};
+
+/// Places in lists of an event, by the names that stand there.
+pub(crate) type Hints<'a> = BTreeMap<&'a str, usize>;
 
 /// What is declared where.
 #[derive(Drop)]
 pub(crate) struct Facts<'a> {
     /// The names of all contexts.
-    pub(crate) contexts: HashSet<&'a str>,
+    pub(crate) contexts: NameSet<'a>,
     /// The carrier sets of the model.
-    pub(crate) carriers: HashSet<&'a str>,
+    pub(crate) carriers: NameSet<'a>,
     /// For each carrier set and constant of the model the places of the contexts that declare it.
     pub(crate) statics: Groups<'a>,
     /// The variables of the machine.
-    pub(crate) variables: HashSet<&'a str>,
+    pub(crate) variables: NameSet<'a>,
     /// The places of all contexts.
     pub(crate) places: Groups<'a>,
+    /// By the name of an event and a name where in a list of the event it stands: a parameter among the parameters, an assigned
+    /// variable left of its sign. Only a hint where to look first, so that no list is gone through for each of its names.
+    pub(crate) hints: BTreeMap<&'a str, Hints<'a>>,
 }
 
-fn insert_names<'a>(names: &'a [Identifier], set: &mut HashSet<&'a str>) -> Result<(), AllocError>
+fn insert_names<'a>(names: &'a [Identifier], set: &mut NameSet<'a>) -> Result<(), AllocError>
     ensures { OnOk result ((q : List ℕ) → has_text set.new q ≡ (is_among (names_of names.now) q || has_text set.old q)) }
 {
     for name in names {
@@ -96,10 +100,10 @@ fn statics<'a>(alloc: Global, units: &'a [EbUnit], marks: &[bool]) -> Result<Gro
 }
 
 /// The names of all contexts.
-fn context_names<'a>(alloc: Global, units: &'a [EbUnit]) -> Result<HashSet<&'a str>, AllocError>
+fn context_names<'a>(alloc: Global, units: &'a [EbUnit]) -> Result<NameSet<'a>, AllocError>
     ensures { IfOk result (λ set. (q : List ℕ) → has_text set q ≡ is_among (facts.context_names units.now) q) }
 {
-    let mut set = HashSet::new(alloc);
+    let mut set = BTreeSet::new(alloc);
     for unit in units {
         if let EbUnit::Context(context) = unit {
             insert_name(&mut set, context.name.name.as_str())?;
@@ -110,7 +114,7 @@ fn context_names<'a>(alloc: Global, units: &'a [EbUnit]) -> Result<HashSet<&'a s
 
 fn insert_clause_carriers<'a>(
     clause: &'a ContextClause,
-    set: &mut HashSet<&'a str>,
+    set: &mut NameSet<'a>,
 ) -> Result<(), AllocError>
     ensures { OnOk result ((q : List ℕ) → has_text set.new q ≡ (is_among (spec.clause_carriers clause.now) q || has_text set.old q)) }
 {
@@ -122,7 +126,7 @@ fn insert_clause_carriers<'a>(
 
 fn insert_carriers<'a>(
     clauses: &'a [ContextClause],
-    set: &mut HashSet<&'a str>,
+    set: &mut NameSet<'a>,
 ) -> Result<(), AllocError>
     ensures { OnOk result ((q : List ℕ) → has_text set.new q ≡ (is_among (flat_map spec.clause_carriers clauses.now) q || has_text set.old q)) }
 {
@@ -135,7 +139,7 @@ fn insert_carriers<'a>(
 fn insert_unit_carriers<'a>(
     unit: &'a EbUnit,
     is_marked: bool,
-    set: &mut HashSet<&'a str>,
+    set: &mut NameSet<'a>,
 ) -> Result<(), AllocError>
     ensures { OnOk result ((q : List ℕ) → has_text set.new q ≡ (is_among (facts.unit_carriers is_marked unit.now) q || has_text set.old q)) }
 {
@@ -150,11 +154,11 @@ fn carriers<'a>(
     alloc: Global,
     units: &'a [EbUnit],
     marks: &[bool],
-) -> Result<HashSet<&'a str>, AllocError>
+) -> Result<NameSet<'a>, AllocError>
     requires { length marks.now ≡ length units.now }
     ensures { IfOk result (λ set. (q : List ℕ) → has_text set q ≡ is_among (facts.all_carriers units.now marks.now) q) }
 {
-    let mut set = HashSet::new(alloc);
+    let mut set = BTreeSet::new(alloc);
     for i in 0..units.len() {
         insert_unit_carriers(&units[i], marks[i], &mut set)?;
     }
@@ -163,7 +167,7 @@ fn carriers<'a>(
 
 fn insert_clause_variables<'a>(
     clause: &'a MachineClause,
-    set: &mut HashSet<&'a str>,
+    set: &mut NameSet<'a>,
 ) -> Result<(), AllocError>
     ensures { OnOk result ((q : List ℕ) → has_text set.new q ≡ (is_among (spec.clause_variables clause.now) q || has_text set.old q)) }
 {
@@ -177,7 +181,7 @@ fn insert_clause_variables<'a>(
 
 fn insert_variables<'a>(
     clauses: &'a [MachineClause],
-    set: &mut HashSet<&'a str>,
+    set: &mut NameSet<'a>,
 ) -> Result<(), AllocError>
     ensures { OnOk result ((q : List ℕ) → has_text set.new q ≡ (is_among (flat_map spec.clause_variables clauses.now) q || has_text set.old q)) }
 {
@@ -187,27 +191,75 @@ fn insert_variables<'a>(
     Ok(())
 }
 
-/// The machine of the text, which is its first one.
-fn machine(units: &[EbUnit]) -> Option<&Machine>
-    ensures { option_map (λ m. m.now) result ≡ machine_of units.now }
-{
-    for unit in units {
-        if let EbUnit::Machine(machine) = unit {
-            return Some(machine);
-        }
-    }
-    None
-}
-
 /// The variables of the machine.
-fn variables<'a>(alloc: Global, units: &'a [EbUnit]) -> Result<HashSet<&'a str>, AllocError>
+fn variables<'a>(alloc: Global, units: &'a [EbUnit]) -> Result<NameSet<'a>, AllocError>
     ensures { IfOk result (λ set. (q : List ℕ) → has_text set q ≡ (is_among (facts.all_variables units.now) q || false)) }
 {
-    let mut set = HashSet::new(alloc);
+    let mut set = BTreeSet::new(alloc);
     if let Some(machine) = machine(units) {
         insert_variables(machine.clauses.as_slice(), &mut set)?;
     }
     Ok(set)
+}
+
+/// Where in a list of the event the name may stand. No answer is a fact: who asks looks there.
+pub(crate) fn hinted_place(facts: &Facts<'_>, event: &str, name: &str) -> usize {
+    match facts.hints.get(event) {
+        Some(places) => match places.get(name) {
+            Some(place) => *place,
+            None => 0,
+        },
+        None => 0,
+    }
+}
+
+fn hint_names<'a>(names: &'a [Identifier], places: &mut Hints<'a>) -> Result<(), AllocError> {
+    for i in 0..names.len() {
+        places.insert(names[i].name.as_str(), i)?;
+    }
+    Ok(())
+}
+
+/// Where the parameters and the assigned variables of the event stand.
+fn event_hints<'a>(alloc: Global, event: &'a Event) -> Result<Hints<'a>, AllocError> {
+    let mut places = BTreeMap::new(alloc);
+    if let Some(clause) = &event.parameters {
+        hint_names(clause.names.as_slice(), &mut places)?;
+    }
+    for action in event.actions.as_slice() {
+        if let Assignment::BecomesSuchThat(names, _) = &action.assignment {
+            hint_names(names.as_slice(), &mut places)?;
+        }
+    }
+    Ok(places)
+}
+
+fn hint_events<'a>(
+    alloc: Global,
+    events: &'a [Event],
+    hints: &mut BTreeMap<&'a str, Hints<'a>>,
+) -> Result<(), AllocError> {
+    for event in events {
+        let places = event_hints(alloc, event)?;
+        hints.insert(event.name.name.as_str(), places)?;
+    }
+    Ok(())
+}
+
+/// The hints of all events of the machine.
+fn hints<'a>(
+    alloc: Global,
+    units: &'a [EbUnit],
+) -> Result<BTreeMap<&'a str, Hints<'a>>, AllocError> {
+    let mut hints = BTreeMap::new(alloc);
+    if let Some(machine) = machine(units) {
+        for clause in machine.clauses.as_slice() {
+            if let MachineClause::Events(events) = clause {
+                hint_events(alloc, events.as_slice(), &mut hints)?;
+            }
+        }
+    }
+    Ok(hints)
 }
 
 /// What is declared in these units with their marks.
@@ -225,5 +277,6 @@ pub(crate) fn facts_of<'a>(
         statics: statics(alloc, units, marks)?,
         variables: variables(alloc, units)?,
         places: context_places(alloc, units)?,
+        hints: hints(alloc, units)?,
     })
 }

@@ -1,7 +1,7 @@
 ghost use Rattle.std.specs.Prelude.{◌≡◌};
 ghost use Rattle.eb_lower.specs.declared.fault.NameFault.TheVariants as fault;
 
-use eb_value::Name;
+use eb_names::Name;
 use std::alloc::AllocError;
 use thiserror::Error;
 

@@ -3,7 +3,7 @@ ghost use Rattle.std.specs.Prelude.{◌≡◌, [], IfOk, IfErr};
 ghost use Rattle.eb_lower.specs.Names.{AreNamed, IsFaultOf};
 ghost use Rattle.eb_scoping.specs.Models.{AreMarked};
 ghost use Rattle.eb_lower.specs.Unsupported.{unsupported};
-ghost use Rattle.eb_lower.specs.Answers as spec;
+ghost use Rattle.eb_lower.specs.steps.Answers as spec;
 
 use super::declarations::declarations;
 use super::fault::NameFault;
@@ -11,7 +11,7 @@ use super::known::judge_usages;
 use super::repeats::judge_all;
 use super::unsupported::unsupported_place;
 use eb_scoping::model_units;
-use eb_term::EbUnit;
+use eb_syntax::EbUnit;
 use std::alloc::Global;
 
 /// Judges the names of a text. The answer is the first of these faults that there is, each by its first place in the text:

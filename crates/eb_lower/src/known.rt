@@ -1,32 +1,30 @@
 //! Whether a used name is known where it is used.
-ghost use Rattle.std.specs.Prelude.{◌≡◌, ℕ, List, Bool, true, false, IfOk, OnOk, Contains, get_or, map};
-ghost use Rattle.eb_lower.specs.Declarations as declared;
-ghost use Rattle.std.specs.List.{list_any};
+ghost use Rattle.std.specs.Prelude.{◌≡◌, [], ◌∷◌, ℕ, List, Bool, false, Some, IfOk, IfSome, OnOk, map};
 ghost use Rattle.eb_scoping.specs.Models.{AreMarked};
-ghost use Rattle.eb_scoping.specs.Walks.{IsContextAt};
 ghost use Rattle.eb_scoping.specs.Groups.{IsIndex};
-ghost use Rattle.eb_lower.specs.Answers.{KnowsAll};
+ghost use Rattle.eb_scoping.specs.Walks.{IsWalk};
 ghost use Rattle.eb_scoping.specs.FreeNames as uses;
+ghost use Rattle.eb_lower.specs.Declarations as declared;
+ghost use Rattle.eb_lower.specs.Unsupported.{is_initialisation as initial};
 ghost use Rattle.eb_lower.specs.Usages as spec;
-ghost use Rattle.eb_lower.specs.Positions as seen;
-ghost use Rattle.eb_lower.specs.Facts.{AreFacts};
-ghost use Rattle.eb_lower.specs.Known.{Tells, Text, ReachIs, JudgesUsage, IsOfModel, IsPlaced, ArePlaced};
+ghost use Rattle.eb_lower.specs.steps.Answers.{KnowsAll};
+ghost use Rattle.eb_lower.specs.steps.Positions as seen;
+ghost use Rattle.eb_lower.specs.steps.Known.{Tells, Text, ReachIs, JudgesUsage, IsOfModel, IsPlaced, ArePlaced, ExtendsAt, ExtendsOne};
 
-use super::facts::{Facts, facts_of};
+use super::facts::{Facts, facts_of, hinted_place};
 use super::fault::NameFault;
-use super::repeats::has_name;
 use super::unsupported::is_initialisation;
 use super::usages::{Position, Usage, push_unit};
-use eb_scoping::{Use, extended_contexts};
-use eb_term::{Context, EbUnit, Event, Identifier};
-use eb_value::Name;
+use eb_names::Name;
+use eb_scoping::{Use, Walk, has_name, is_among, lead_walk, walk_from, walk_reaches};
+use eb_syntax::{Context, EbUnit, Event, Identifier};
 use std::alloc::{AllocError, Global};
 
-/// The contexts that a context reaches by `extends`, as a mark for each unit.
+/// What a context reaches by `extends`, as far as it was asked.
 #[derive(Drop)]
 pub(crate) struct Reach<'a> {
     pub(crate) context: &'a str,
-    pub(crate) marks: Vec<bool>,
+    pub(crate) walk: Walk<'a>,
 }
 
 /// Whether a context of the model has this carrier set or constant.
@@ -46,24 +44,32 @@ fn is_variable(facts: &Facts<'_>, name: &str) -> bool
     has_name(&facts.variables, name)
 }
 
-fn is_among(names: &[Identifier], name: &str) -> bool
+/// Whether the name is one of these, which stand in the event. Looks first where the facts have it.
+fn is_listed(facts: &Facts<'_>, event: &Event, names: &[Identifier], name: &str) -> bool
     ensures { result ≡ uses.is_among (uses.names_of names.now) name.now }
 {
-    for other in names {
+    if let Some(other) = names.get(hinted_place(facts, event.name.name.as_str(), name)) {
         if other.name.as_str() == name {
             return true;
         }
     }
-    false
+    is_among(names, name)
 }
 
-fn is_parameter(event: &Event, name: &str) -> bool
+fn is_parameter(facts: &Facts<'_>, event: &Event, name: &str) -> bool
     ensures { result ≡ uses.is_among (declared.parameter_names event.now.parameters) name.now }
 {
     match &event.parameters {
-        Some(clause) => is_among(clause.names.as_slice(), name),
+        Some(clause) => is_listed(facts, event, clause.names.as_slice(), name),
         None => false,
     }
+}
+
+/// Whether the machine has this variable and the event is another than INITIALISATION.
+fn has_value_before(facts: &Facts<'_>, event: &Event, name: &str) -> bool
+    ensures { (us : List seen.Unit) (marks : List Bool) → Text us marks facts.now → Tells result ((initial event.now ≡ false) × spec.IsVariable us name.now) }
+{
+    !is_initialisation(event) && is_variable(facts, name)
 }
 
 /// Whether the name is known in a guard or action of the event.
@@ -72,43 +78,96 @@ fn is_known_in_event(facts: &Facts<'_>, event: &Event, after: &[Identifier], use
 {
     let name = used.name.as_str();
     if used.is_primed {
-        return is_among(after, name);
+        return is_listed(facts, event, after, name);
     }
-    is_static(facts, name)
-        || is_parameter(event, name)
-        || (!is_initialisation(event) && is_variable(facts, name))
+    if is_static(facts, name) {
+        return true;
+    }
+    if has_value_before(facts, event, name) {
+        return true;
+    }
+    is_parameter(facts, event, name)
 }
 
-/// Whether one of the places is marked.
-fn is_one_marked(places: &[usize], marks: &[bool]) -> bool
-    ensures { result ≡ list_any (λ i. get_or marks.now i false) places.now }
+/// Whether the walk reaches the context at this place, if one is there.
+fn reaches_place<'a>(
+    units: &'a [EbUnit],
+    facts: &Facts<'_>,
+    walk: &mut Walk<'a>,
+    place: usize,
+) -> Result<bool, AllocError>
+    requires { IsIndex units.now facts.now.places }
+    ensures walk { OnOk result ((first : List (List ℕ)) → IsWalk units.now first walk.old → IsWalk units.now first walk.new) }
+    ensures answer { IfOk result (λ found. (from : List ℕ) → IsWalk units.now (from ∷ []) walk.old → Tells found (ExtendsAt units.now from place)) }
+{
+    match units.get(place) {
+        Some(EbUnit::Context(context)) => {
+            walk_reaches(&facts.places, walk, units, context.name.name.as_str())
+        }
+        Some(EbUnit::Machine(_) | EbUnit::Scope(_) | EbUnit::Queries(_)) | None => Ok(false),
+    }
+}
+
+/// Whether the walk reaches a context at one of the places.
+fn reaches_one<'a>(
+    units: &'a [EbUnit],
+    facts: &Facts<'_>,
+    walk: &mut Walk<'a>,
+    places: &[usize],
+) -> Result<bool, AllocError>
+    requires { IsIndex units.now facts.now.places }
+    ensures walk { OnOk result ((first : List (List ℕ)) → IsWalk units.now first walk.old → IsWalk units.now first walk.new) }
+    ensures answer { IfOk result (λ found. (from : List ℕ) → IsWalk units.now (from ∷ []) walk.old → Tells found (ExtendsOne units.now from places.now)) }
 {
     for place in places {
-        if *place < marks.len() && marks[*place] {
-            return true;
+        if reaches_place(units, facts, walk, *place)? {
+            return Ok(true);
         }
     }
-    false
+    Ok(false)
 }
 
-/// Whether one of the places is that of a context of this name.
-fn is_own(units: &[EbUnit], places: &[usize], name: &str) -> bool
-    ensures { result ≡ true → (i : ℕ) × Contains places.now i × IsContextAt units.now i name.now }
+/// The known walk, where it serves the contexts of this name too.
+fn walk_for<'a>(
+    units: &'a [EbUnit],
+    facts: &Facts<'_>,
+    known: Reach<'a>,
+    name: &'a str,
+) -> Result<Option<Walk<'a>>, AllocError>
+    requires { IsIndex units.now facts.now.places }
+    ensures { ReachIs units.now (Some known.entry) → IfOk result (λ found. IfSome found (IsWalk units.now (name.now ∷ []))) }
 {
-    for place in places {
-        if let Some(EbUnit::Context(context)) = units.get(*place) {
-            if context.name.name.as_str() == name {
-                return true;
-            }
-        }
+    let Reach { context, mut walk } = known;
+    if lead_walk(&facts.places, &mut walk, units, context, name)? {
+        return Ok(Some(walk));
     }
-    false
+    Ok(None)
 }
 
-/// Whether an axiom of the context may use the name. `reach` is what the context reaches, once that is asked.
+/// A walk from the contexts of this name, with what is known.
+fn walk_of<'a>(
+    alloc: Global,
+    units: &'a [EbUnit],
+    facts: &Facts<'_>,
+    known: Option<Reach<'a>>,
+    name: &'a str,
+) -> Result<Walk<'a>, AllocError>
+    requires places { IsIndex units.now facts.now.places }
+    requires reached { ReachIs units.now known }
+    ensures { IfOk result (IsWalk units.now (name.now ∷ [])) }
+{
+    if let Some(known) = known {
+        if let Some(walk) = walk_for(units, facts, known, name)? {
+            return Ok(walk);
+        }
+    }
+    walk_from(alloc, name)
+}
+
+/// Whether an axiom of the context may use the name. `reach` is what a context reaches, once that is asked.
 fn is_known_in_axiom<'a>(
     alloc: Global,
-    units: &[EbUnit],
+    units: &'a [EbUnit],
     facts: &Facts<'_>,
     context: &'a Context,
     used: Use<'_>,
@@ -127,27 +186,19 @@ fn is_known_in_axiom<'a>(
         return Ok(false);
     };
     let name = context.name.name.as_str();
-    if is_own(units, places, name) {
-        return Ok(true);
-    }
-    match reach {
-        Some(known) if known.context == name => Ok(is_one_marked(places, &known.marks)),
-        _ => {
-            let marks = extended_contexts(alloc, units, &facts.places, name)?;
-            let found = is_one_marked(places, &marks);
-            *reach = Some(Reach {
-                context: name,
-                marks,
-            });
-            Ok(found)
-        }
-    }
+    let mut walk = walk_of(alloc, units, facts, reach.take(), name)?;
+    let found = reaches_one(units, facts, &mut walk, places)?;
+    *reach = Some(Reach {
+        context: name,
+        walk,
+    });
+    Ok(found)
 }
 
 /// Whether the name is known where it is used.
 fn is_known<'a>(
     alloc: Global,
-    units: &[EbUnit],
+    units: &'a [EbUnit],
     facts: &Facts<'_>,
     usage: Usage<'a>,
     reach: &mut Option<Reach<'a>>,
@@ -170,7 +221,7 @@ fn is_known<'a>(
         }
         Position::Event(event, after) => Ok(is_known_in_event(facts, event, after, usage.used)),
         Position::Assigned => Ok(is_variable(facts, name)),
-        Position::Changed(event) => Ok(!is_initialisation(event) && is_variable(facts, name)),
+        Position::Changed(event) => Ok(has_value_before(facts, event, name)),
     }
 }
 
@@ -189,7 +240,7 @@ fn printed(alloc: Global, used: Use<'_>) -> Result<Name, AllocError>
 /// Judges one usage.
 fn judge_usage<'a>(
     alloc: Global,
-    units: &[EbUnit],
+    units: &'a [EbUnit],
     facts: &Facts<'_>,
     usage: Usage<'a>,
     reach: &mut Option<Reach<'a>>,
@@ -208,19 +259,21 @@ fn judge_usage<'a>(
 }
 
 /// Judges the usages of one unit.
-fn judge_unit(
+fn judge_unit<'a>(
     alloc: Global,
-    units: &[EbUnit],
+    units: &'a [EbUnit],
     facts: &Facts<'_>,
-    usages: &[Usage<'_>],
+    usages: &[Usage<'a>],
+    reach: &mut Option<Reach<'a>>,
 ) -> Result<(), NameFault>
+    requires reached { ReachIs units.now reach.old }
     requires places { IsIndex units.now facts.now.places }
     requires placed { ArePlaced units.now (map seen.usage usages.now) }
-    ensures { (marks : List Bool) → Text units.now marks facts.now → KnowsAll units.now marks (map seen.usage usages.now) result }
+    ensures reached { OnOk result (ReachIs units.now reach.new) }
+    ensures known { (marks : List Bool) → Text units.now marks facts.now → KnowsAll units.now marks (map seen.usage usages.now) result }
 {
-    let mut reach = None;
     for usage in usages {
-        if let Err(fault) = judge_usage(alloc, units, facts, *usage, &mut reach) {
+        if let Err(fault) = judge_usage(alloc, units, facts, *usage, reach) {
             return Err(fault);
         }
     }
@@ -233,10 +286,11 @@ pub(crate) fn judge_usages(alloc: Global, units: &[EbUnit], marks: &[bool]) -> R
     ensures { KnowsAll units.now marks.now (spec.usages units.now marks.now) result }
 {
     let facts = facts_of(alloc, units, marks)?;
+    let mut reach = None;
     for i in 0..units.len() {
         let mut usages = Vec::new(alloc);
         push_unit(alloc, &units[i], marks[i], &mut usages)?;
-        if let Err(fault) = judge_unit(alloc, units, &facts, &usages) {
+        if let Err(fault) = judge_unit(alloc, units, &facts, &usages, &mut reach) {
             return Err(fault);
         }
     }

@@ -12,6 +12,3 @@ mod usages;
 
 pub use fault::NameFault;
 pub use judging::names;
-
-#[cfg(test)]
-mod tests;

@@ -1,17 +1,16 @@
 //! Whether a declaration repeats an earlier one.
 ghost use Rattle.std.specs.Prelude.{[], ◌∷◌, ◌≡◌, ◌++◌, ℕ, List, IfOk, OnOk, map, bytes_eq, ◌||◌, ◌&&◌, codes, option_map};
-ghost use Rattle.std.specs.List.{flat_map};
-ghost use Rattle.eb_scoping.specs.FreeNames.{names_of, mark_names};
+ghost use Rattle.eb_scoping.specs.Sets.{has_text};
 ghost use Rattle.eb_lower.specs.Declarations as spec;
-ghost use Rattle.eb_lower.specs.Seen as seen;
-ghost use Rattle.eb_lower.specs.Keys.{has, has_text, same_key, owner_of, kind_of, same_parts, is_parameter, is_taken, IsFirstTwice, BindsApart, Keeps, Judged, AreJudged};
+ghost use Rattle.eb_lower.specs.steps.Seen as seen;
+ghost use Rattle.eb_lower.specs.steps.Keys.{has, same_key, owner_of, kind_of, same_parts, is_parameter, is_taken, IsFirstTwice, BindsApart, Keeps, Judged, AreJudged};
 
 use super::declarations::{Declaration, Space};
 use super::fault::NameFault;
-use eb_term::{Identifier, Mark};
-use eb_value::Name;
+use eb_names::Name;
+use eb_scoping::{NameSet, has_name, insert_name, names, pattern_names};
 use std::alloc::{AllocError, Global};
-use std::collections::HashSet;
+use std::collections::{BTreeSet, HashSet};
 
 /// The kind of a space.
 #[derive(Clone, Copy, Debug, PartialEq, Eq, Hash)]
@@ -40,7 +39,7 @@ pub(crate) struct Key<'a> {
 pub(crate) struct Known<'a> {
     pub(crate) keys: HashSet<Key<'a>>,
     /// The parameters of all events.
-    pub(crate) parameters: HashSet<&'a str>,
+    pub(crate) parameters: NameSet<'a>,
 }
 
 fn space_kind(space: Space<'_>) -> Kind
@@ -100,19 +99,6 @@ fn insert_key<'a>(keys: &mut HashSet<Key<'a>>, key: Key<'a>) -> Result<(), Alloc
     Ok(())
 }
 
-pub(crate) fn has_name(names: &HashSet<&str>, name: &str) -> bool
-    ensures { result ≡ has_text names.now name.now }
-{
-    names.contains(name)
-}
-
-pub(crate) fn insert_name<'a>(names: &mut HashSet<&'a str>, name: &'a str) -> Result<(), AllocError>
-    ensures { OnOk result ((q : List ℕ) → has_text names.new q ≡ (bytes_eq name.now q || has_text names.old q)) }
-{
-    names.insert(name)?;
-    Ok(())
-}
-
 /// Whether the name may not be declared in the space.
 fn is_repeated(known: &Known<'_>, space: Space<'_>, name: &str) -> bool
     ensures { result ≡ is_taken known.now.keys known.now.parameters space.entry name.now }
@@ -169,54 +155,26 @@ fn label(alloc: Global, name: &str) -> Result<Name, AllocError>
 }
 
 /// The first name that stands a second time.
-fn first_twice<'a>(alloc: Global, names: &[&'a str]) -> Result<Option<&'a str>, AllocError>
+fn first_twice<'a>(alloc: Global, names: &[&'a Name]) -> Result<Option<&'a Name>, AllocError>
     ensures { IfOk result (λ found. IsFirstTwice (map (λ x. x.now) names.now) (option_map (λ x. x.now) found)) }
 {
-    let mut front = HashSet::new(alloc);
+    let mut front = BTreeSet::new(alloc);
     for name in names {
-        if has_name(&front, name) {
+        let text = name.as_str();
+        if has_name(&front, text) {
             return Ok(Some(*name));
         }
-        insert_name(&mut front, name)?;
+        insert_name(&mut front, text)?;
     }
     Ok(None)
 }
 
-fn identifier_names<'a>(alloc: Global, names: &'a [Identifier]) -> Result<Vec<&'a str>, AllocError>
-    ensures { IfOk result (λ found. map (λ x. x.now) found.items ≡ names_of names.now) }
-{
-    let mut found = Vec::new(alloc);
-    for name in names {
-        found.push(name.name.as_str())?;
-    }
-    Ok(found)
-}
-
-fn push_mark<'a>(mark: &'a Mark, found: &mut Vec<&'a str>) -> Result<(), AllocError>
-    ensures { OnOk result (map (λ x. x.now) found.new.items ≡ map (λ x. x.now) found.old.items ++ mark_names mark.now) }
-{
-    if let Mark::Identifier(name) = mark {
-        found.push(name.name.as_str())?;
-    }
-    Ok(())
-}
-
-fn pattern_names<'a>(alloc: Global, pattern: &'a [Mark]) -> Result<Vec<&'a str>, AllocError>
-    ensures { IfOk result (λ found. map (λ x. x.now) found.items ≡ flat_map mark_names pattern.now) }
-{
-    let mut found = Vec::new(alloc);
-    for mark in pattern {
-        push_mark(mark, &mut found)?;
-    }
-    Ok(found)
-}
-
-fn judge_binder(alloc: Global, names: &[&str]) -> Result<(), NameFault>
+fn judge_binder(alloc: Global, names: &[&Name]) -> Result<(), NameFault>
     ensures { BindsApart (map (λ x. x.now) names.now) result }
 {
     match first_twice(alloc, names)? {
         Some(name) => {
-            let name = Name::new(alloc, name)?;
+            let name = name.copied(alloc)?;
             Err(NameFault::DuplicateName(name))
         }
         None => Ok(()),
@@ -249,8 +207,8 @@ fn judge<'a>(
 {
     match declaration {
         Declaration::Name(space, name) => judge_name(alloc, known, space, name),
-        Declaration::Identifiers(names) => {
-            let names = identifier_names(alloc, names)?;
+        Declaration::Identifiers(identifiers) => {
+            let names = names(alloc, identifiers)?;
             judge_binder(alloc, &names)
         }
         Declaration::Pattern(marks) => {
@@ -266,7 +224,7 @@ pub(crate) fn judge_all(alloc: Global, declarations: &[Declaration<'_>]) -> Resu
 {
     let mut known = Known {
         keys: HashSet::new(alloc),
-        parameters: HashSet::new(alloc),
+        parameters: BTreeSet::new(alloc),
     };
     for declaration in declarations {
         if let Err(fault) = judge(alloc, &mut known, *declaration) {

@@ -3,10 +3,10 @@ ghost use Rattle.std.specs.Prelude.{◌≡◌, ◌++◌};
 ghost use Rattle.std.specs.List.{flat_map};
 ghost use Rattle.eb_lower.specs.Unsupported as spec;
 
-use eb_term::{
+use eb_names::Name;
+use eb_syntax::{
     EbUnit, Event, Inheritance, Machine, MachineClause, NamesClause, PredicatesClause, Refinement,
 };
-use eb_value::Name;
 
 /// Whether this is the event that gives the variables their first values.
 pub(crate) fn is_initialisation(event: &Event) -> bool

@@ -3,10 +3,10 @@ ghost use Rattle.std.specs.Prelude.{[], ◌∷◌, ◌≡◌, ◌++◌, OnOk, If
 ghost use Rattle.std.specs.List.{flat_map};
 ghost use Rattle.eb_scoping.specs.FreeNames as uses;
 ghost use Rattle.eb_lower.specs.Usages as spec;
-ghost use Rattle.eb_lower.specs.Positions as seen;
+ghost use Rattle.eb_lower.specs.steps.Positions as seen;
 
 use eb_scoping::{Use, free_uses};
-use eb_term::{
+use eb_syntax::{
     Action, Assignment, Ast, Context, ContextClause, EbUnit, Event, Identifier, LabelledPredicate,
     Machine, MachineClause, PredicatesClause, ScopeSetting,
 };

@@ -7,6 +7,3 @@
 mod meaning;
 
 pub use meaning::{Slots, Truth3, slots_of, truth_in, value_in};
-
-#[cfg(test)]
-mod tests;

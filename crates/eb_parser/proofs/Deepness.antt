@@ -7,16 +7,16 @@ use Rattle.eb_lexer.specs.declared.token.Sign.TheVariants as sign
 use Rattle.eb_lexer.specs.declared.token.Token.{Token}
 use Rattle.eb_lexer.specs.declared.token.TokenKind.{TokenKind}
 use Rattle.eb_lexer.specs.declared.token.TokenKind.TheVariants as kind
-use Rattle.eb_term.specs.declared.ast.Ast.{Ast}
-use Rattle.eb_term.specs.declared.ast.Prefix.{Prefix}
-use Rattle.eb_term.specs.declared.ast.Call.{Call}
-use Rattle.eb_term.specs.declared.ast.Quantifier.{Quantifier}
-use Rattle.eb_term.specs.declared.ast.Binder.{Binder}
-use Rattle.eb_term.specs.declared.ast.Binder.TheVariants as binder
-use Rattle.eb_term.specs.declared.ast.Bound.{Bound}
-use Rattle.eb_term.specs.declared.ast.Mark.{Mark}
-use Rattle.eb_term.specs.declared.ast.Mark.TheVariants as mark
-use Rattle.eb_term.specs.declared.ast.Identifier.{Identifier}
+use Rattle.eb_syntax.specs.declared.ast.Ast.{Ast}
+use Rattle.eb_syntax.specs.declared.ast.Prefix.{Prefix}
+use Rattle.eb_syntax.specs.declared.ast.Call.{Call}
+use Rattle.eb_syntax.specs.declared.ast.Quantifier.{Quantifier}
+use Rattle.eb_syntax.specs.declared.ast.Binder.{Binder}
+use Rattle.eb_syntax.specs.declared.ast.Binder.TheVariants as binder
+use Rattle.eb_syntax.specs.declared.ast.Bound.{Bound}
+use Rattle.eb_syntax.specs.declared.ast.Mark.{Mark}
+use Rattle.eb_syntax.specs.declared.ast.Mark.TheVariants as mark
+use Rattle.eb_syntax.specs.declared.ast.Identifier.{Identifier}
 use Rattle.eb_parser.specs.declared.part.Part.{Part}
 use Rattle.eb_parser.specs.declared.fault.Fault.{Fault}
 use Rattle.eb_parser.specs.declared.fault.Fault.TheVariants.{Syntax, TooDeep}
@@ -29,8 +29,8 @@ use Rattle.eb_parser.specs.Levels.{is_pred}
 use Rattle.eb_parser.specs.Signs.{IsSign, closing_sign}
 use Rattle.eb_parser.specs.Grammar.{Derives, Exprs, d_number, d_identifier, d_primed, d_constant, d_prefix, d_quantifier, d_call, d_partition, d_parentheses, d_binder, d_empty, d_extension, d_comprehension, d_builder, d_inverse, d_operator, e_last, e_more, group_of, right_of, takes, prefix_level, prefix_takes, call_level, call_takes, prefixed, called, bracketed, inverted, joined, quantified, bound_by, comprehended, built, empty_braces, extended, partitioned}
 use Rattle.eb_parser.specs.Formulas.{is_unit_word}
-use Rattle.eb_parser.specs.Tables.{start_of, head_follow}
-use Rattle.eb_parser.specs.Reading.{◌>>=◌, Reader, Reading, Listing, begins, after_first, after_sign, after_closing, name_of, name_at, separator, names, names_on, sign_mark, mark_of, mark_at, state_after, ends_pattern, marks_on, pattern, binding, leaf_at, prefix_at, predicate, quantifier_at, call_least, call_at, parentheses_at, row_on, row, row_after, partition_at, body, binder_at, comprehension_at, builder_at, extension_at, members_at, brace_by, brace_at, begun_by, primary_by, primary, next_follow, operand_at, reading, joins, turn, resume, go_on, climb, read}
+use Rattle.eb_parser.specs.steps.Tables.{start_of, head_follow}
+use Rattle.eb_parser.specs.steps.Climbing.{◌>>=◌, Reader, Reading, Listing, begins, after_first, after_sign, after_closing, name_of, name_at, separator, names, names_on, sign_mark, mark_of, mark_at, state_after, ends_pattern, marks_on, pattern, binding, leaf_at, prefix_at, predicate, quantifier_at, call_least, call_at, parentheses_at, row_on, row, row_after, partition_at, body, binder_at, comprehension_at, builder_at, extension_at, members_at, brace_by, brace_at, begun_by, primary_by, primary, next_follow, operand_at, reading, joins, turn, resume, go_on, climb, read}
 use Rattle.eb_parser.proofs.Steps.{ok, ok_inj, bind_ok, begins_means, after_sign_means, GoesOn, next_some}
 use Rattle.eb_parser.proofs.NameLaws.{named, parting, naming, stated, marking, names_sound, binding_sound}
 use Rattle.eb_parser.proofs.Soundness.{Found, Sound, read_sound, primary_sound, predicate_sound, turn_sound, done, listed, bodied}

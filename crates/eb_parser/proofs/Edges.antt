@@ -4,8 +4,8 @@ use Rattle.std.specs.Prelude.{Option, Some, None, nat_le, ◌||◌, not}
 use Rattle.std.proofs.lemmas.Bool.Decides.{nat_tests}
 use Rattle.eb_lexer.specs.declared.token.Sign.{Sign}
 use Rattle.eb_lexer.specs.declared.token.Token.{Token}
-use Rattle.eb_term.specs.declared.ast.Prefix.{Prefix}
-use Rattle.eb_term.specs.declared.ast.Prefix.TheVariants as prefix
+use Rattle.eb_syntax.specs.declared.ast.Prefix.{Prefix}
+use Rattle.eb_syntax.specs.declared.ast.Prefix.TheVariants as prefix
 use Rattle.eb_parser.specs.declared.part.Part.{Part}
 use Rattle.eb_parser.specs.declared.table.Group.{Group}
 use Rattle.eb_parser.specs.declared.table.Group.TheVariants as g
@@ -14,7 +14,7 @@ use Rattle.eb_parser.specs.Levels as level
 use Rattle.eb_parser.specs.Levels.{is_pred, is_expr}
 use Rattle.eb_parser.specs.Signs.{IsSign}
 use Rattle.eb_parser.specs.Grammar.{Derives, d_number, d_identifier, d_primed, d_constant, d_prefix, d_quantifier, d_call, d_partition, d_parentheses, d_binder, d_empty, d_extension, d_comprehension, d_builder, d_inverse, d_operator, group_of, level_of, admits, right_of, takes, prefix_level, prefix_takes}
-use Rattle.eb_parser.specs.Tables.{follow_of, follow_kind, head_follow, row_of}
+use Rattle.eb_parser.specs.steps.Tables.{follow_of, follow_kind, head_follow, row_of}
 use Rattle.eb_parser.proofs.SignLaws.{follow_sign, follows_sign}
 
 -- behind a bracket nothing is taken
@@ -103,14 +103,14 @@ unfolding step_test
 firm_joined g.Implication l e h f = firm_from 1 0 l e h (firm_at 0 1 refl refl refl refl refl refl refl refl refl) f
 firm_joined g.Disjunction l e h f = firm_from 3 1 l e h (firm_at 1 3 refl refl refl refl refl refl refl refl refl) f
 firm_joined g.Conjunction l e h f = firm_from 3 2 l e h (firm_at 2 3 refl refl refl refl refl refl refl refl refl) f
-firm_joined g.Relation l e h f = firm_from 4 3 l e h (firm_at 3 4 refl refl refl refl refl refl refl refl refl) f
+firm_joined g.Comparison l e h f = firm_from 4 3 l e h (firm_at 3 4 refl refl refl refl refl refl refl refl refl) f
 firm_joined g.Maplet l e h f = firm_from 6 5 l e h (firm_at 5 6 refl refl refl refl refl refl refl refl refl) f
 firm_joined g.Arrow l e h f = firm_from 7 6 l e h (firm_at 6 7 refl refl refl refl refl refl refl refl refl) f
 firm_joined g.Set l e h f = firm_from 8 7 l e h (firm_at 7 8 refl refl refl refl refl refl refl refl refl) f
-firm_joined g.Range l e h f = firm_from 9 8 l e h (firm_at 8 9 refl refl refl refl refl refl refl refl refl) f
+firm_joined g.Interval l e h f = firm_from 9 8 l e h (firm_at 8 9 refl refl refl refl refl refl refl refl refl) f
 firm_joined g.Sum l e h f = firm_from 10 9 l e h (firm_at 9 10 refl refl refl refl refl refl refl refl refl) f
-firm_joined g.Product l e h f = firm_from 11 10 l e h (firm_at 10 11 refl refl refl refl refl refl refl refl refl) f
-firm_joined g.Power l e h f = firm_from 11 12 l e h (firm_at 12 11 refl refl refl refl refl refl refl refl refl) f
+firm_joined g.Multiplication l e h f = firm_from 11 10 l e h (firm_at 10 11 refl refl refl refl refl refl refl refl refl) f
+firm_joined g.Exponentiation l e h f = firm_from 11 12 l e h (firm_at 12 11 refl refl refl refl refl refl refl refl refl) f
 firm_joined g.Post l e h f = firm_top 13
 
 pub prefix_high : (op : Prefix) (l : ℕ) → IsTrue (prefix_takes op l) → prefix_level op ≤ l
@@ -153,14 +153,14 @@ pub admitted : (op : Group) (l e : ℕ) → IsTrue (admits op l) → Firm l e �
 admitted g.Implication l e h f = (omega (arith, f.any), omega arith)
 admitted g.Disjunction l e h f = let a : 1 ≤ l = grind (arith, nat_tests) in (omega (arith, f.one a), a)
 admitted g.Conjunction l e h f = let a : 2 ≤ l = grind (arith, nat_tests) in (omega (arith, f.one (omega arith)), a)
-admitted g.Relation l e h f = let a : 4 ≤ l = grind (arith, nat_tests) in (omega (arith, f.four a), omega arith)
+admitted g.Comparison l e h f = let a : 4 ≤ l = grind (arith, nat_tests) in (omega (arith, f.four a), omega arith)
 admitted g.Maplet l e h f = let a : 5 ≤ l = grind (arith, nat_tests) in (omega (arith, f.five a), a)
 admitted g.Arrow l e h f = let a : 6 ≤ l = grind (arith, nat_tests) in (omega (arith, f.six a), a)
 admitted g.Set l e h f = let a : 7 ≤ l = grind (arith, nat_tests) in (omega (arith, f.seven a), a)
-admitted g.Range l e h f = let a : 9 ≤ l = grind (arith, nat_tests) in (omega (arith, f.nine a), omega arith)
+admitted g.Interval l e h f = let a : 9 ≤ l = grind (arith, nat_tests) in (omega (arith, f.nine a), omega arith)
 admitted g.Sum l e h f = let a : 9 ≤ l = grind (arith, nat_tests) in (omega (arith, f.nine a), a)
-admitted g.Product l e h f = let a : 10 ≤ l = grind (arith, nat_tests) in (omega (arith, f.ten a), a)
-admitted g.Power l e h f = let a : 13 ≤ l = grind (arith, nat_tests) in (omega (arith, f.thirteen a), omega arith)
+admitted g.Multiplication l e h f = let a : 10 ≤ l = grind (arith, nat_tests) in (omega (arith, f.ten a), a)
+admitted g.Exponentiation l e h f = let a : 13 ≤ l = grind (arith, nat_tests) in (omega (arith, f.thirteen a), omega arith)
 admitted g.Post l e h f = let a : 13 ≤ l = grind (arith, nat_tests) in (omega (arith, f.thirteen a), a)
 
 pub stops_less : (a c : ℕ) (rest : List Token) → a ≤ c → Stops a rest → Stops c rest

@@ -4,9 +4,9 @@ use Rattle.std.specs.Prelude.{Option, Some, None, if◌then◌else◌, Result, O
 use Rattle.std.proofs.lemmas.Bool.Decides.{nat_tests}
 use Rattle.eb_lexer.specs.declared.token.Token.{Token}
 use Rattle.eb_lexer.specs.declared.token.Sign.TheVariants as s
-use Rattle.eb_term.specs.declared.ast.Ast.{Ast}
-use Rattle.eb_term.specs.declared.ast.Mark.{Mark}
-use Rattle.eb_term.specs.declared.ast.Identifier.{Identifier}
+use Rattle.eb_syntax.specs.declared.ast.Ast.{Ast}
+use Rattle.eb_syntax.specs.declared.ast.Mark.{Mark}
+use Rattle.eb_syntax.specs.declared.ast.Identifier.{Identifier}
 use Rattle.eb_parser.specs.declared.part.Part.{Part}
 use Rattle.eb_parser.specs.declared.fault.Fault.{Fault}
 use Rattle.eb_parser.specs.declared.fault.Fault.TheVariants.{Syntax, TooDeep}
@@ -14,8 +14,8 @@ use Rattle.eb_parser.specs.declared.fault.Stop.{Stop}
 use Rattle.eb_parser.specs.declared.fault.Stop.TheVariants as stopped
 use Rattle.eb_parser.specs.declared.table.Follow.{Follow}
 use Rattle.eb_parser.specs.Levels as level
-use Rattle.eb_parser.specs.Tables.{head_follow}
-use Rattle.eb_parser.specs.Reading.{◌>>=◌, Reader, Reading, Listing, Naming, Marking, primary, climb, read, names, name_at, separator, pattern, mark_at, state_after, ends_pattern, marks_on, row, row_on, row_after, begins, after_first, turn, tried, next_follow, resume, Fails}
+use Rattle.eb_parser.specs.steps.Tables.{head_follow}
+use Rattle.eb_parser.specs.steps.Climbing.{◌>>=◌, Reader, Reading, Listing, Naming, Marking, primary, climb, read, names, name_at, separator, pattern, mark_at, state_after, ends_pattern, marks_on, row, row_on, row_after, begins, after_first, turn, tried, next_follow, resume, Fails}
 
 pub read_zero : (k : ℕ) (ts : List Token) → read 0 k ts ≡ Err TooDeep
 unfolding read

@@ -1,11 +1,11 @@
 -- The laws of the formulas at a place.
 use Rattle.std.proofs.Common.{◌≡◌, ◌∙◌, ◌⊎◌, inl, inr, ◌≤◌, ◌<◌, ◌+◌, ◌-◌, ℕ, true, false, List, [], ◌∷◌, ◌++◌, length, take, drop, refl, sym, ap, subst, arith, IsTrue, length-append, length-drop}
-use Rattle.std.specs.Prelude.{Option, None, Some, Ok, Err, Result, IfOk}
-use Rattle.std.proofs.Math.Seq.{take-length, take-append_seam, drop-append-add}
+use Rattle.std.specs.Prelude.{Option, None, Some, Ok, Err}
+use Rattle.std.proofs.Math.Seq.{take-append_seam, drop-append-add}
 use Rattle.std.proofs.lemmas.List.{take-append-drop, length-take-le}
 use Rattle.std.proofs.lemmas.Bool.Decides.{nat_tests}
 use Rattle.eb_lexer.specs.declared.token.Token.{Token}
-use Rattle.eb_term.specs.declared.ast.Ast.{Ast}
+use Rattle.eb_syntax.specs.declared.ast.Ast.{Ast}
 use Rattle.eb_parser.specs.declared.part.Part.{Part}
 use Rattle.eb_parser.specs.declared.fault.Fault.TheVariants.{Syntax, TooDeep}
 use Rattle.eb_parser.specs.declared.table.Follow.{Follow}
@@ -13,18 +13,14 @@ use Rattle.eb_parser.specs.declared.table.Follow.TheVariants as follow
 use Rattle.eb_parser.specs.declared.formulas.FormulaKind.{FormulaKind}
 use Rattle.eb_parser.specs.declared.formulas.FormulaKind.TheVariants as formula
 use Rattle.eb_parser.specs.Formulas.{fits, least_of, Stands, IsLongest, stretch, Continues}
-use Rattle.eb_parser.specs.Spelling.{HaveKinds, kinds_of, text_of, unplaced, ReadsAs}
 use Rattle.eb_parser.specs.Grammar.{Derives}
-use Rattle.eb_parser.specs.Tables.{head_follow}
-use Rattle.eb_parser.specs.Reading.{read, Reading, reading}
+use Rattle.eb_parser.specs.steps.Tables.{head_follow}
+use Rattle.eb_parser.specs.steps.Climbing.{read, Reading, reading}
 use Rattle.eb_parser.proofs.SignLaws.{kind_follow}
 use Rattle.eb_parser.proofs.Steps.{ok_inj}
 use Rattle.eb_parser.proofs.Soundness.{read_sound}
 use Rattle.eb_parser.proofs.Completeness.{formula_read}
 use Rattle.eb_parser.proofs.Longest.{unique, longest, refused, too_high, kept}
-use Rattle.eb_lexer.specs.Tokens.{IsTokens}
-use Rattle.eb_parser.proofs.SpellingLaws.{spelled, again}
-use Rattle.eb_parser.proofs.Respelling.{known, known_drop, known_take, reread}
 use Rattle.eb_parser.proofs.Deepness.{height_below, read_long}
 
 pub high : (k : FormulaKind) (l : ℕ) → IsTrue (fits k l) → least_of k ≤ l
@@ -159,30 +155,3 @@ one_reading k tokens from end a c h g s o =
 
 pub same_read : (k l : ℕ) (ts us : List Token) (r : Reading) → k ≡ l → ts ≡ us → read 201 k ts ≡ r → read 201 l us ≡ r
 same_read k l ts us r e i h = sym (ap (λ z. read 201 z us) e) ∙ (sym (ap (read 201 k) i) ∙ h)
-
--- the tokens of a formula are those that it is written with
-pub own_kinds : (k : FormulaKind) (tokens : List Token) (from end : ℕ) (a : Ast) (h : ℕ) → Stands k tokens from end a h → HaveKinds (take (end - from) (drop from tokens)) (kinds_of a)
-own_kinds k tokens from end a h s = spelled s.derived ∙ ap kinds_of s.tree
-
--- tokens of these kinds read as the formula but for its places
-pub read_back : (k : FormulaKind) (tokens : List Token) (from end : ℕ) (a : Ast) (h : ℕ) → Stands k tokens from end a h → (us : List Token) → HaveKinds us (kinds_of a)
-    → (b : Ast) × Stands k us 0 (length us) b h × (unplaced b ≡ unplaced a)
-read_back k tokens from end a h s us e =
-    let r = again s.derived us (e ∙ sym (own_kinds k tokens from end a h s)) in
-    let f : IsTrue (fits k (r.part).level) = ap (fits k) r.level ∙ s.fits in
-    let n : length us - 0 ≡ length us = omega arith in
-    let d : Derives (take (length us - 0) us) r.part = subst (λ z. Derives z r.part) (sym (ap (λ z. take z us) n ∙ take-length us)) r.derived in
-    ((r.part).tree, record { ordered = omega (arith, height_below r.derived); within = omega arith; part = r.part; derived = d; fits = f; tree = refl; height = r.height ∙ s.height }, r.tree ∙ ap unplaced s.tree)
-
--- what a formula of a text is spelled with reads as that formula but for its places
-pub spelled_back : (k : FormulaKind) (tokens : List Token) (text : List ℕ) (from end : ℕ) (a : Ast) (h : ℕ) → IsTokens tokens text → Stands k tokens from end a h → ReadsAs k (text_of (kinds_of a)) a h
-spelled_back k tokens text from end a h i s =
-    let own = own_kinds k tokens from end a h s in
-    let r = reread (take (end - from) (drop from tokens)) (known_take (end - from) (drop from tokens) (known_drop from tokens (known tokens text i))) in
-    let w = read_back k tokens from end a h s r.tokens (r.alike ∙ own) in
-    record { tokens = r.tokens; are = subst (λ z. IsTokens r.tokens (text_of z)) own r.are; tree = w.0; stands = w.1; same = w.2 }
-
-pub answer_reads : {E : Type 0} (r : Result (List ℕ) E) (a : Ast) → IfOk r (λ t. t ≡ text_of (kinds_of a))
-    → (k : FormulaKind) (tokens : List Token) (text : List ℕ) (from end : ℕ) (h : ℕ) → IsTokens tokens text → Stands k tokens from end a h → IfOk r (λ t. ReadsAs k t a h)
-answer_reads (Ok t) a e k tokens text from end h i s = subst (λ z. ReadsAs k z a h) (sym e) (spelled_back k tokens text from end a h i s)
-answer_reads (Err x) a e k tokens text from end h i s = tt

@@ -4,16 +4,17 @@ use Rattle.std.specs.Prelude.{Ok, Err, Result}
 use Rattle.eb_lexer.specs.declared.token.Sign.TheVariants as sign
 use Rattle.eb_lexer.specs.declared.token.Token.{Token}
 use Rattle.eb_lexer.specs.declared.token.TokenKind.TheVariants as kind
-use Rattle.eb_term.specs.declared.ast.Ast.{Ast}
+use Rattle.eb_syntax.specs.declared.ast.Ast.{Ast}
 use Rattle.eb_parser.specs.declared.part.Part.{Part}
 use Rattle.eb_parser.specs.declared.fault.Fault.TheVariants.{Syntax, TooDeep}
 use Rattle.eb_parser.specs.declared.formulas.FormulaKind.{FormulaKind}
 use Rattle.eb_parser.specs.Signs.{IsSign}
 use Rattle.eb_parser.specs.Grammar.{Derives}
 use Rattle.eb_parser.specs.Formulas.{fits, least_of, Continues}
-use Rattle.eb_parser.specs.Tables.{start_of}
-use Rattle.eb_parser.specs.Reading.{◌>>=◌, read, primary_by, begun_by}
-use Rattle.eb_parser.specs.Fronts.{Front, of_kind, formula_at, FrontLaws}
+use Rattle.eb_parser.specs.steps.Tables.{start_of}
+use Rattle.eb_parser.specs.steps.Climbing.{◌>>=◌, read, primary_by, begun_by}
+use Rattle.eb_parser.specs.Fronts.{Front}
+use Rattle.eb_parser.specs.steps.Finding.{of_kind, formula_at, FrontLaws}
 use Rattle.eb_parser.proofs.Steps.{ok_inj, bind_ok, guard_ok}
 use Rattle.eb_parser.proofs.Soundness.{read_sound}
 use Rattle.eb_parser.proofs.Completeness.{formula_read}

@@ -10,7 +10,4 @@ pub mod Longest
 pub mod Stretches
 pub mod Deepness
 pub mod FormulaLaws
-pub mod SpellingLaws
-pub mod SpellingSteps
-pub mod Respelling
 mod FrontLaws

@@ -5,14 +5,14 @@ use Rattle.std.specs.Prelude.{take, Option, Some, None, Ok, Err, nat_lt}
 use Rattle.std.proofs.lemmas.Bool.Decides.{nat_tests}
 use Rattle.eb_lexer.specs.declared.token.Sign.TheVariants as sign
 use Rattle.eb_lexer.specs.declared.token.Token.{Token}
-use Rattle.eb_term.specs.declared.ast.Prefix.{Prefix}
-use Rattle.eb_term.specs.declared.ast.Prefix.TheVariants as prefix
-use Rattle.eb_term.specs.declared.ast.Operator.{Operator}
-use Rattle.eb_term.specs.declared.ast.Quantifier.{Quantifier}
-use Rattle.eb_term.specs.declared.ast.Binder.{Binder}
-use Rattle.eb_term.specs.declared.ast.Bound.{Bound}
-use Rattle.eb_term.specs.declared.ast.Identifier.{Identifier}
-use Rattle.eb_term.specs.Asts as tree
+use Rattle.eb_syntax.specs.declared.ast.Prefix.{Prefix}
+use Rattle.eb_syntax.specs.declared.ast.Prefix.TheVariants as prefix
+use Rattle.eb_syntax.specs.declared.ast.Operator.{Operator}
+use Rattle.eb_syntax.specs.declared.ast.Quantifier.{Quantifier}
+use Rattle.eb_syntax.specs.declared.ast.Binder.{Binder}
+use Rattle.eb_syntax.specs.declared.ast.Bound.{Bound}
+use Rattle.eb_syntax.specs.declared.ast.Identifier.{Identifier}
+use Rattle.eb_syntax.specs.Asts as tree
 use Rattle.eb_parser.specs.declared.part.Part.{Part}
 use Rattle.eb_parser.specs.declared.fault.Fault.TheVariants.{Syntax, TooDeep}
 use Rattle.eb_parser.specs.declared.table.Group.{Group}
@@ -24,8 +24,8 @@ use Rattle.eb_parser.specs.Levels as level
 use Rattle.eb_parser.specs.Levels.{is_pred, is_expr}
 use Rattle.eb_parser.specs.Signs.{IsSign, prefix_sign, quantifier_sign, binder_sign, operator_sign, closing_sign}
 use Rattle.eb_parser.specs.Grammar.{Derives, Names, Binding, d_number, d_identifier, d_primed, d_constant, d_prefix, d_quantifier, d_call, d_partition, d_parentheses, d_binder, d_empty, d_extension, d_comprehension, d_builder, d_inverse, d_operator, Closes, group_of, level_of, admits, right_of, takes, joins_predicates, constant_level, prefix_level, prefix_takes, leaf, prefixed, called, bracketed, inverted, joined, quantified, bound_by, comprehended, built, empty_braces, extended, partitioned}
-use Rattle.eb_parser.specs.Tables.{head_follow, row_of}
-use Rattle.eb_parser.specs.Reading.{Reader, Reading, after_first, after_closing, operand_at, reading, joins, primary, predicate, body, binder_at, turn, resume, stop, go_on, climb, next_follow, read}
+use Rattle.eb_parser.specs.steps.Tables.{head_follow, row_of}
+use Rattle.eb_parser.specs.steps.Climbing.{Reader, Reading, after_first, after_closing, operand_at, reading, joins, primary, predicate, body, binder_at, turn, resume, stop, go_on, climb, next_follow, read}
 use Rattle.eb_parser.proofs.SignLaws.{prefix_starts, quantifier_starts, binder_starts}
 use Rattle.eb_parser.proofs.Steps.{ok_inj, bind_ok, guard_ok, next_some, after_sign_ok, closing_means}
 use Rattle.eb_parser.proofs.Equations.{climb_turn, climb_full}
@@ -63,14 +63,14 @@ joined_kind : (op : Group) (l : ℕ) → IsTrue (admits op l) → l ≤ 3 → le
 joined_kind g.Implication l a h = omega arith
 joined_kind g.Disjunction l a h = omega arith
 joined_kind g.Conjunction l a h = omega arith
-joined_kind g.Relation l a h = omega arith
+joined_kind g.Comparison l a h = omega arith
 joined_kind g.Maplet l a h = grind (arith, nat_tests)
 joined_kind g.Arrow l a h = grind (arith, nat_tests)
 joined_kind g.Set l a h = grind (arith, nat_tests)
-joined_kind g.Range l a h = grind (arith, nat_tests)
+joined_kind g.Interval l a h = grind (arith, nat_tests)
 joined_kind g.Sum l a h = grind (arith, nat_tests)
-joined_kind g.Product l a h = grind (arith, nat_tests)
-joined_kind g.Power l a h = grind (arith, nat_tests)
+joined_kind g.Multiplication l a h = grind (arith, nat_tests)
+joined_kind g.Exponentiation l a h = grind (arith, nat_tests)
 joined_kind g.Post l a h = grind (arith, nat_tests)
 
 -- a turn leaves no more tokens, and keeps the kind
@@ -134,14 +134,14 @@ below_top : (op : Group) → level_of op < 15
 below_top g.Implication = omega arith
 below_top g.Disjunction = omega arith
 below_top g.Conjunction = omega arith
-below_top g.Relation = omega arith
+below_top g.Comparison = omega arith
 below_top g.Maplet = omega arith
 below_top g.Arrow = omega arith
 below_top g.Set = omega arith
-below_top g.Range = omega arith
+below_top g.Interval = omega arith
 below_top g.Sum = omega arith
-below_top g.Product = omega arith
-below_top g.Power = omega arith
+below_top g.Multiplication = omega arith
+below_top g.Exponentiation = omega arith
 below_top g.Post = omega arith
 
 -- what no operator can be taken inside of

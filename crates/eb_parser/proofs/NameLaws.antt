@@ -7,18 +7,19 @@ use Rattle.eb_lexer.specs.declared.token.Sign.TheVariants as s
 use Rattle.eb_lexer.specs.declared.token.Token.{Token}
 use Rattle.eb_lexer.specs.declared.token.TokenKind.{TokenKind}
 use Rattle.eb_lexer.specs.declared.token.TokenKind.TheVariants as kind
-use Rattle.eb_term.specs.declared.ast.Mark.{Mark}
-use Rattle.eb_term.specs.declared.ast.Mark.TheVariants as mark
-use Rattle.eb_term.specs.declared.ast.Bound.{Bound}
-use Rattle.eb_term.specs.declared.ast.Bound.TheVariants as bound
-use Rattle.eb_term.specs.declared.ast.Binder.{Binder}
-use Rattle.eb_term.specs.declared.ast.Binder.TheVariants as binder
-use Rattle.eb_term.specs.declared.ast.Identifier.{Identifier}
+use Rattle.eb_syntax.specs.declared.ast.Mark.{Mark}
+use Rattle.eb_syntax.specs.declared.ast.Mark.TheVariants as mark
+use Rattle.eb_syntax.specs.declared.ast.Bound.{Bound}
+use Rattle.eb_syntax.specs.declared.ast.Bound.TheVariants as bound
+use Rattle.eb_syntax.specs.declared.ast.Binder.{Binder}
+use Rattle.eb_syntax.specs.declared.ast.Binder.TheVariants as binder
+use Rattle.eb_syntax.specs.declared.ast.Identifier.{Identifier}
 use Rattle.eb_parser.specs.declared.fault.Fault.{Fault}
 use Rattle.eb_parser.specs.declared.fault.Fault.TheVariants.{Syntax}
-use Rattle.eb_parser.specs.Signs.{IsSign, is_sign, same_sign}
+use Rattle.eb_parser.specs.Signs.{IsSign, is_sign}
+use Rattle.eb_lexer.specs.Signs.{same_sign}
 use Rattle.eb_parser.specs.Grammar.{Names, n_last, n_more, Pattern, p_atom, p_maplet, Atom, a_identifier, a_parentheses, Binding, b_pattern, b_union, b_intersection, bound_at}
-use Rattle.eb_parser.specs.Reading.{◌>>=◌, Naming, Marking, begins, after_first, names, names_on, name_at, name_of, separator, pattern, mark_at, mark_of, sign_mark, state_after, ends_pattern, marks_on, binding}
+use Rattle.eb_parser.specs.steps.Climbing.{◌>>=◌, Naming, Marking, begins, after_first, names, names_on, name_at, name_of, separator, pattern, mark_at, mark_of, sign_mark, state_after, ends_pattern, marks_on, binding}
 use Rattle.eb_parser.proofs.SignLaws.{sign_is, sign_other}
 use Rattle.eb_parser.proofs.Steps.{ok_inj, bind_ok, begins_means}
 use Rattle.eb_parser.proofs.Equations.{marks_with}

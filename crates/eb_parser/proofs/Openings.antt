@@ -6,8 +6,8 @@ use Rattle.eb_lexer.specs.declared.token.Sign.TheVariants as sign
 use Rattle.eb_lexer.specs.declared.token.Token.{Token}
 use Rattle.eb_lexer.specs.declared.token.TokenKind.{TokenKind}
 use Rattle.eb_lexer.specs.declared.token.TokenKind.TheVariants as kind
-use Rattle.eb_term.specs.declared.ast.Ast.{Ast}
-use Rattle.eb_term.specs.declared.ast.Identifier.{Identifier}
+use Rattle.eb_syntax.specs.declared.ast.Ast.{Ast}
+use Rattle.eb_syntax.specs.declared.ast.Identifier.{Identifier}
 use Rattle.eb_parser.specs.declared.part.Part.{Part}
 use Rattle.eb_parser.specs.declared.fault.Fault.{Fault}
 use Rattle.eb_parser.specs.declared.fault.Fault.TheVariants.{Syntax}
@@ -17,8 +17,8 @@ use Rattle.eb_parser.specs.declared.table.Follow.{Follow}
 use Rattle.eb_parser.specs.declared.table.Follow.TheVariants as follow
 use Rattle.eb_parser.specs.Signs.{IsSign, is_sign, constant_sign, prefix_sign, call_sign, quantifier_sign, binder_sign}
 use Rattle.eb_parser.specs.Grammar.{Derives, Exprs, d_number, d_identifier, d_primed, d_constant, d_prefix, d_quantifier, d_call, d_partition, d_parentheses, d_binder, d_empty, d_extension, d_comprehension, d_builder, d_inverse, d_operator, e_last, e_more, bound_at}
-use Rattle.eb_parser.specs.Tables.{start_of, follow_kind}
-use Rattle.eb_parser.specs.Reading.{◌>>=◌, Naming, begins, name_of, separator, names_on, names}
+use Rattle.eb_parser.specs.steps.Tables.{start_of, follow_kind}
+use Rattle.eb_parser.specs.steps.Climbing.{◌>>=◌, Naming, begins, name_of, separator, names_on, names}
 use Rattle.eb_parser.proofs.SignLaws.{sign_true, follows_sign, constant_starts, prefix_starts, quantifier_starts, binder_starts, call_starts}
 use Rattle.eb_parser.proofs.NameLaws.{comma_ok}
 

@@ -8,24 +8,25 @@ use Rattle.eb_lexer.specs.declared.token.Sign.TheVariants as s
 use Rattle.eb_lexer.specs.declared.token.Token.{Token}
 use Rattle.eb_lexer.specs.declared.token.TokenKind.{TokenKind}
 use Rattle.eb_lexer.specs.declared.token.TokenKind.TheVariants as kind
-use Rattle.eb_term.specs.declared.ast.Constant.{Constant}
-use Rattle.eb_term.specs.declared.ast.Constant.TheVariants as constant
-use Rattle.eb_term.specs.declared.ast.Prefix.{Prefix}
-use Rattle.eb_term.specs.declared.ast.Prefix.TheVariants as prefix
-use Rattle.eb_term.specs.declared.ast.Call.{Call}
-use Rattle.eb_term.specs.declared.ast.Call.TheVariants as call
-use Rattle.eb_term.specs.declared.ast.Operator.{Operator}
-use Rattle.eb_term.specs.declared.ast.Operator.TheVariants as op
-use Rattle.eb_term.specs.declared.ast.Quantifier.{Quantifier}
-use Rattle.eb_term.specs.declared.ast.Quantifier.TheVariants as quantifier
-use Rattle.eb_term.specs.declared.ast.Binder.{Binder}
-use Rattle.eb_term.specs.declared.ast.Binder.TheVariants as binder
+use Rattle.eb_syntax.specs.declared.ast.Constant.{Constant}
+use Rattle.eb_syntax.specs.declared.ast.Constant.TheVariants as constant
+use Rattle.eb_syntax.specs.declared.ast.Prefix.{Prefix}
+use Rattle.eb_syntax.specs.declared.ast.Prefix.TheVariants as prefix
+use Rattle.eb_syntax.specs.declared.ast.Call.{Call}
+use Rattle.eb_syntax.specs.declared.ast.Call.TheVariants as call
+use Rattle.eb_syntax.specs.declared.ast.Operator.{Operator}
+use Rattle.eb_syntax.specs.declared.ast.Operator.TheVariants as op
+use Rattle.eb_syntax.specs.declared.ast.Quantifier.{Quantifier}
+use Rattle.eb_syntax.specs.declared.ast.Quantifier.TheVariants as quantifier
+use Rattle.eb_syntax.specs.declared.ast.Binder.{Binder}
+use Rattle.eb_syntax.specs.declared.ast.Binder.TheVariants as binder
 use Rattle.eb_parser.specs.declared.table.Start.{Start}
 use Rattle.eb_parser.specs.declared.table.Start.TheVariants as start
 use Rattle.eb_parser.specs.declared.table.Follow.{Follow}
 use Rattle.eb_parser.specs.declared.table.Follow.TheVariants as follow
-use Rattle.eb_parser.specs.Signs.{IsSign, same_sign, is_kind, is_sign, constant_sign, prefix_sign, call_sign, quantifier_sign, binder_sign, operator_sign}
-use Rattle.eb_parser.specs.Tables.{start_of, follow_of, follow_kind}
+use Rattle.eb_parser.specs.Signs.{IsSign, is_sign, constant_sign, prefix_sign, call_sign, quantifier_sign, binder_sign, operator_sign}
+use Rattle.eb_lexer.specs.Signs.{same_sign, is_kind}
+use Rattle.eb_parser.specs.steps.Tables.{start_of, follow_of, follow_kind}
 
 kind_true : (sign : Sign) (k : TokenKind) → is_kind sign k ≡ true → k ≡ kind.Sign sign
 unfolding same_sign

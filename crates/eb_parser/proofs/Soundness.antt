@@ -7,13 +7,13 @@ use Rattle.eb_lexer.specs.declared.token.Sign.TheVariants as sign
 use Rattle.eb_lexer.specs.declared.token.Token.{Token}
 use Rattle.eb_lexer.specs.declared.token.TokenKind.{TokenKind}
 use Rattle.eb_lexer.specs.declared.token.TokenKind.TheVariants as kind
-use Rattle.eb_term.specs.declared.ast.Ast.{Ast}
-use Rattle.eb_term.specs.declared.ast.Prefix.{Prefix}
-use Rattle.eb_term.specs.declared.ast.Call.{Call}
-use Rattle.eb_term.specs.declared.ast.Quantifier.{Quantifier}
-use Rattle.eb_term.specs.declared.ast.Binder.{Binder}
-use Rattle.eb_term.specs.declared.ast.Identifier.{Identifier}
-use Rattle.eb_term.specs.Asts as tree
+use Rattle.eb_syntax.specs.declared.ast.Ast.{Ast}
+use Rattle.eb_syntax.specs.declared.ast.Prefix.{Prefix}
+use Rattle.eb_syntax.specs.declared.ast.Call.{Call}
+use Rattle.eb_syntax.specs.declared.ast.Quantifier.{Quantifier}
+use Rattle.eb_syntax.specs.declared.ast.Binder.{Binder}
+use Rattle.eb_syntax.specs.declared.ast.Identifier.{Identifier}
+use Rattle.eb_syntax.specs.Asts as tree
 use Rattle.eb_parser.specs.declared.part.Part.{Part}
 use Rattle.eb_parser.specs.declared.fault.Fault.{Fault}
 use Rattle.eb_parser.specs.declared.fault.Fault.TheVariants.{Syntax, TooDeep}
@@ -25,8 +25,8 @@ use Rattle.eb_parser.specs.Levels as level
 use Rattle.eb_parser.specs.Levels.{is_pred, is_expr}
 use Rattle.eb_parser.specs.Signs.{IsSign, prefix_sign, call_sign, quantifier_sign, binder_sign, closing_sign}
 use Rattle.eb_parser.specs.Grammar.{Derives, Exprs, Names, d_number, d_identifier, d_primed, d_constant, d_prefix, d_quantifier, d_call, d_partition, d_parentheses, d_binder, d_empty, d_extension, d_comprehension, d_builder, d_inverse, d_operator, e_last, e_more, group_of, right_of, takes, constant_level, prefix_level, prefix_takes, call_level, call_takes, leaf, bracketed, joined, empty_braces}
-use Rattle.eb_parser.specs.Tables.{start_of, head_follow}
-use Rattle.eb_parser.specs.Reading.{◌>>=◌, Reader, Reading, Listing, begins, after_first, after_sign, after_closing, names, binding, leaf_at, prefix_at, predicate, quantifier_at, call_least, call_at, parentheses_at, row_on, row, row_after, partition_at, body, binder_at, comprehension_at, builder_at, extension_at, members_at, brace_by, brace_at, begun_by, primary_by, primary, next_follow, operand_at, reading, joins, turn, resume, stop, go_on, climb, read}
+use Rattle.eb_parser.specs.steps.Tables.{start_of, head_follow}
+use Rattle.eb_parser.specs.steps.Climbing.{◌>>=◌, Reader, Reading, Listing, begins, after_first, after_sign, after_closing, names, binding, leaf_at, prefix_at, predicate, quantifier_at, call_least, call_at, parentheses_at, row_on, row, row_after, partition_at, body, binder_at, comprehension_at, builder_at, extension_at, members_at, brace_by, brace_at, begun_by, primary_by, primary, next_follow, operand_at, reading, joins, turn, resume, stop, go_on, climb, read}
 use Rattle.eb_parser.proofs.SignLaws.{start_means}
 use Rattle.eb_parser.proofs.Steps.{ok_inj, bind_ok, guard_ok, begins_means, after_sign_means, closing_means, GoesOn, next_some}
 use Rattle.eb_parser.proofs.NameLaws.{names_sound, binding_sound}

@@ -9,8 +9,8 @@ use Rattle.eb_parser.specs.declared.fault.Fault.{Fault}
 use Rattle.eb_parser.specs.declared.table.Follow.{Follow}
 use Rattle.eb_parser.specs.Signs.{IsSign}
 use Rattle.eb_parser.specs.Grammar.{level_of, admits, Closes}
-use Rattle.eb_parser.specs.Tables.{head_follow, row_of}
-use Rattle.eb_parser.specs.Reading.{◌>>=◌, begins, after_first, after_sign, after_closing, goes_on, next_follow}
+use Rattle.eb_parser.specs.steps.Tables.{head_follow, row_of}
+use Rattle.eb_parser.specs.steps.Climbing.{◌>>=◌, begins, after_first, after_sign, after_closing, goes_on, next_follow}
 use Rattle.eb_parser.proofs.SignLaws.{sign_true, sign_is, follow_sign, kind_follow}
 
 abbrev pub ok : {A : Type 0} → A → Result A Fault

@@ -6,13 +6,13 @@ use Rattle.eb_lexer.specs.declared.token.Sign.{Sign}
 use Rattle.eb_lexer.specs.declared.token.Sign.TheVariants as sign
 use Rattle.eb_lexer.specs.declared.token.Token.{Token}
 use Rattle.eb_lexer.specs.declared.token.TokenKind.TheVariants as kind
-use Rattle.eb_term.specs.declared.ast.Ast.{Ast}
-use Rattle.eb_term.specs.declared.ast.Mark.{Mark}
-use Rattle.eb_term.specs.declared.ast.Identifier.{Identifier}
-use Rattle.eb_term.specs.declared.ast.Binder.{Binder}
-use Rattle.eb_term.specs.declared.ast.Bound.{Bound}
-use Rattle.eb_term.specs.declared.ast.Operator.{Operator}
-use Rattle.eb_term.specs.declared.ast.Operator.TheVariants as op
+use Rattle.eb_syntax.specs.declared.ast.Ast.{Ast}
+use Rattle.eb_syntax.specs.declared.ast.Mark.{Mark}
+use Rattle.eb_syntax.specs.declared.ast.Identifier.{Identifier}
+use Rattle.eb_syntax.specs.declared.ast.Binder.{Binder}
+use Rattle.eb_syntax.specs.declared.ast.Bound.{Bound}
+use Rattle.eb_syntax.specs.declared.ast.Operator.{Operator}
+use Rattle.eb_syntax.specs.declared.ast.Operator.TheVariants as op
 use Rattle.eb_parser.specs.declared.part.Part.{Part}
 use Rattle.eb_parser.specs.declared.table.Start.{Start}
 use Rattle.eb_parser.specs.declared.table.Start.TheVariants as start
@@ -20,7 +20,7 @@ use Rattle.eb_parser.specs.declared.table.Follow.{Follow}
 use Rattle.eb_parser.specs.declared.table.Follow.TheVariants as follow
 use Rattle.eb_parser.specs.Signs.{IsSign, constant_sign, prefix_sign, call_sign, quantifier_sign, binder_sign, closing_sign}
 use Rattle.eb_parser.specs.Grammar.{Derives, Exprs, Names, Pattern, Atom, Binding, n_last, n_more, p_atom, p_maplet, a_identifier, a_parentheses, b_pattern, b_union, b_intersection, d_number, d_identifier, d_primed, d_constant, d_prefix, d_quantifier, d_call, d_partition, d_parentheses, d_binder, d_empty, d_extension, d_comprehension, d_builder, d_inverse, d_operator, e_last, e_more, Closes}
-use Rattle.eb_parser.specs.Tables.{start_of, follow_of}
+use Rattle.eb_parser.specs.steps.Tables.{start_of, follow_of}
 use Rattle.eb_parser.specs.Formulas.{is_unit_word, is_inside, stretch}
 use Rattle.eb_parser.proofs.SignLaws.{follow_sign, follows_sign, constant_starts, prefix_starts, quantifier_starts, binder_starts, call_starts}
 use Rattle.eb_parser.proofs.Completeness.{Ends, closes, goes, ends}

@@ -5,8 +5,8 @@ use Rattle.eb_lexer.specs.declared.token.Sign.TheVariants as s
 use Rattle.eb_lexer.specs.declared.token.Token.{Token}
 use Rattle.eb_lexer.specs.declared.token.TokenKind.{TokenKind}
 use Rattle.eb_lexer.specs.declared.token.TokenKind.TheVariants as kind
-use Rattle.eb_term.specs.declared.ast.Ast.{Ast}
-use Rattle.eb_term.specs.declared.ast.Operator.{Operator}
+use Rattle.eb_syntax.specs.declared.ast.Ast.{Ast}
+use Rattle.eb_syntax.specs.declared.ast.Operator.{Operator}
 use Rattle.eb_parser.specs.declared.part.Part.{Part}
 use Rattle.eb_parser.specs.declared.fault.ParseFault.{ParseFault}
 use Rattle.eb_parser.specs.declared.fault.ParseFault.TheVariants as fault

@@ -21,24 +21,24 @@ use Rattle.eb_lexer.specs.declared.token.Sign.{Sign}
 use Rattle.eb_lexer.specs.declared.token.Sign.TheVariants as s
 use Rattle.eb_lexer.specs.declared.token.Token.{Token}
 use Rattle.eb_lexer.specs.declared.token.TokenKind.TheVariants as kind
-use Rattle.eb_term.specs.declared.ast.Ast.{Ast}
-use Rattle.eb_term.specs.declared.ast.Constant.{Constant}
-use Rattle.eb_term.specs.declared.ast.Constant.TheVariants as constant
-use Rattle.eb_term.specs.declared.ast.Prefix.{Prefix}
-use Rattle.eb_term.specs.declared.ast.Prefix.TheVariants as prefix
-use Rattle.eb_term.specs.declared.ast.Call.{Call}
-use Rattle.eb_term.specs.declared.ast.Call.TheVariants as call
-use Rattle.eb_term.specs.declared.ast.Operator.{Operator}
-use Rattle.eb_term.specs.declared.ast.Operator.TheVariants as op
-use Rattle.eb_term.specs.declared.ast.Quantifier.{Quantifier}
-use Rattle.eb_term.specs.declared.ast.Binder.{Binder}
-use Rattle.eb_term.specs.declared.ast.Binder.TheVariants as binder
-use Rattle.eb_term.specs.declared.ast.Bound.{Bound}
-use Rattle.eb_term.specs.declared.ast.Bound.TheVariants as bound
-use Rattle.eb_term.specs.declared.ast.Mark.{Mark}
-use Rattle.eb_term.specs.declared.ast.Mark.TheVariants as mark
-use Rattle.eb_term.specs.declared.ast.Identifier.{Identifier}
-use Rattle.eb_term.specs.Asts as tree
+use Rattle.eb_syntax.specs.declared.ast.Ast.{Ast}
+use Rattle.eb_syntax.specs.declared.ast.Constant.{Constant}
+use Rattle.eb_syntax.specs.declared.ast.Constant.TheVariants as constant
+use Rattle.eb_syntax.specs.declared.ast.Prefix.{Prefix}
+use Rattle.eb_syntax.specs.declared.ast.Prefix.TheVariants as prefix
+use Rattle.eb_syntax.specs.declared.ast.Call.{Call}
+use Rattle.eb_syntax.specs.declared.ast.Call.TheVariants as call
+use Rattle.eb_syntax.specs.declared.ast.Operator.{Operator}
+use Rattle.eb_syntax.specs.declared.ast.Operator.TheVariants as op
+use Rattle.eb_syntax.specs.declared.ast.Quantifier.{Quantifier}
+use Rattle.eb_syntax.specs.declared.ast.Binder.{Binder}
+use Rattle.eb_syntax.specs.declared.ast.Binder.TheVariants as binder
+use Rattle.eb_syntax.specs.declared.ast.Bound.{Bound}
+use Rattle.eb_syntax.specs.declared.ast.Bound.TheVariants as bound
+use Rattle.eb_syntax.specs.declared.ast.Mark.{Mark}
+use Rattle.eb_syntax.specs.declared.ast.Mark.TheVariants as mark
+use Rattle.eb_syntax.specs.declared.ast.Identifier.{Identifier}
+use Rattle.eb_syntax.specs.Asts as tree
 use Rattle.eb_parser.specs.declared.part.Part.{Part}
 use Rattle.eb_parser.specs.declared.table.Group.{Group}
 use Rattle.eb_parser.specs.declared.table.Group.TheVariants as g
@@ -52,18 +52,18 @@ group_of op.Implies = g.Implication
 group_of op.Equivalent = g.Implication
 group_of op.Or = g.Disjunction
 group_of op.And = g.Conjunction
-group_of op.Equal = g.Relation
-group_of op.Unequal = g.Relation
-group_of op.MemberOf = g.Relation
-group_of op.NotMemberOf = g.Relation
-group_of op.SubsetOf = g.Relation
-group_of op.NotSubsetOf = g.Relation
-group_of op.ProperSubsetOf = g.Relation
-group_of op.NotProperSubsetOf = g.Relation
-group_of op.Less = g.Relation
-group_of op.AtMost = g.Relation
-group_of op.Greater = g.Relation
-group_of op.AtLeast = g.Relation
+group_of op.Equal = g.Comparison
+group_of op.Unequal = g.Comparison
+group_of op.MemberOf = g.Comparison
+group_of op.NotMemberOf = g.Comparison
+group_of op.SubsetOf = g.Comparison
+group_of op.NotSubsetOf = g.Comparison
+group_of op.ProperSubsetOf = g.Comparison
+group_of op.NotProperSubsetOf = g.Comparison
+group_of op.Less = g.Comparison
+group_of op.AtMost = g.Comparison
+group_of op.Greater = g.Comparison
+group_of op.AtLeast = g.Comparison
 group_of op.MapsTo = g.Maplet
 group_of op.Relation = g.Arrow
 group_of op.TotalRelation = g.Arrow
@@ -89,13 +89,13 @@ group_of op.RangeSubtraction = g.Set
 group_of op.Override = g.Set
 group_of op.DirectProduct = g.Set
 group_of op.ParallelProduct = g.Set
-group_of op.UpTo = g.Range
+group_of op.UpTo = g.Interval
 group_of op.Plus = g.Sum
 group_of op.Minus = g.Sum
-group_of op.Times = g.Product
-group_of op.Divide = g.Product
-group_of op.Modulo = g.Product
-group_of op.Power = g.Power
+group_of op.Times = g.Multiplication
+group_of op.Divide = g.Multiplication
+group_of op.Modulo = g.Multiplication
+group_of op.Power = g.Exponentiation
 group_of op.Apply = g.Post
 group_of op.Image = g.Post
 
@@ -104,14 +104,14 @@ abbrev pub level_of : Group → ℕ
 level_of g.Implication = level.pred
 level_of g.Disjunction = level.disjunction
 level_of g.Conjunction = level.conjunction
-level_of g.Relation = level.lit
+level_of g.Comparison = level.lit
 level_of g.Maplet = level.maplet
 level_of g.Arrow = level.arrow
 level_of g.Set = level.set
-level_of g.Range = level.range
+level_of g.Interval = level.range
 level_of g.Sum = level.sum
-level_of g.Product = level.prod
-level_of g.Power = level.power
+level_of g.Multiplication = level.prod
+level_of g.Exponentiation = level.power
 level_of g.Post = level.post
 
 -- what may stand to its left: a level of what is grouped to the left is among them
@@ -119,14 +119,14 @@ abbrev pub admits : Group → ℕ → Bool
 admits g.Implication n = nat_le level.disjunction n && nat_le n level.lit
 admits g.Disjunction n = (n == level.disjunction) || (n == level.lit)
 admits g.Conjunction n = nat_le level.conjunction n && nat_le n level.lit
-admits g.Relation n = nat_le level.expr n
+admits g.Comparison n = nat_le level.expr n
 admits g.Maplet n = nat_le level.maplet n
 admits g.Arrow n = nat_le level.arrow n
 admits g.Set n = nat_le level.set n
-admits g.Range n = nat_le level.sum n
+admits g.Interval n = nat_le level.sum n
 admits g.Sum n = nat_le level.sum n
-admits g.Product n = nat_le level.prod n
-admits g.Power n = nat_le level.post n
+admits g.Multiplication n = nat_le level.prod n
+admits g.Exponentiation n = nat_le level.post n
 admits g.Post n = nat_le level.post n
 
 -- the least level of what stands to its right, or in its brackets
@@ -134,14 +134,14 @@ abbrev pub right_of : Group → ℕ
 right_of g.Implication = level.disjunction
 right_of g.Disjunction = level.lit
 right_of g.Conjunction = level.lit
-right_of g.Relation = level.expr
+right_of g.Comparison = level.expr
 right_of g.Maplet = level.arrow
 right_of g.Arrow = level.set
 right_of g.Set = level.range
-right_of g.Range = level.sum
+right_of g.Interval = level.sum
 right_of g.Sum = level.prod
-right_of g.Product = level.neg
-right_of g.Power = level.neg
+right_of g.Multiplication = level.neg
+right_of g.Exponentiation = level.neg
 right_of g.Post = level.expr
 
 abbrev pub joins_predicates : Group → Bool

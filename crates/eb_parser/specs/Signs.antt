@@ -1,24 +1,22 @@
 -- The signs that spell what a formula is made of.
 use Rattle.std.specs.Prelude.{Bool, false, Option, Some, None, ◌≡◌}
-use denote.Enum.Bare.{sameb}
-use Rattle.eb_lexer.specs.contracts.token.Sign.{the_type}
 use Rattle.eb_lexer.specs.declared.token.Sign.{Sign}
 use Rattle.eb_lexer.specs.declared.token.Sign.TheVariants as s
+use Rattle.eb_lexer.specs.Signs.{is_kind}
 use Rattle.eb_lexer.specs.declared.token.Token.{Token}
-use Rattle.eb_lexer.specs.declared.token.TokenKind.{TokenKind}
 use Rattle.eb_lexer.specs.declared.token.TokenKind.TheVariants as kind
-use Rattle.eb_term.specs.declared.ast.Constant.{Constant}
-use Rattle.eb_term.specs.declared.ast.Constant.TheVariants as constant
-use Rattle.eb_term.specs.declared.ast.Prefix.{Prefix}
-use Rattle.eb_term.specs.declared.ast.Prefix.TheVariants as prefix
-use Rattle.eb_term.specs.declared.ast.Call.{Call}
-use Rattle.eb_term.specs.declared.ast.Call.TheVariants as call
-use Rattle.eb_term.specs.declared.ast.Operator.{Operator}
-use Rattle.eb_term.specs.declared.ast.Operator.TheVariants as op
-use Rattle.eb_term.specs.declared.ast.Quantifier.{Quantifier}
-use Rattle.eb_term.specs.declared.ast.Quantifier.TheVariants as quantifier
-use Rattle.eb_term.specs.declared.ast.Binder.{Binder}
-use Rattle.eb_term.specs.declared.ast.Binder.TheVariants as binder
+use Rattle.eb_syntax.specs.declared.ast.Constant.{Constant}
+use Rattle.eb_syntax.specs.declared.ast.Constant.TheVariants as constant
+use Rattle.eb_syntax.specs.declared.ast.Prefix.{Prefix}
+use Rattle.eb_syntax.specs.declared.ast.Prefix.TheVariants as prefix
+use Rattle.eb_syntax.specs.declared.ast.Call.{Call}
+use Rattle.eb_syntax.specs.declared.ast.Call.TheVariants as call
+use Rattle.eb_syntax.specs.declared.ast.Operator.{Operator}
+use Rattle.eb_syntax.specs.declared.ast.Operator.TheVariants as op
+use Rattle.eb_syntax.specs.declared.ast.Quantifier.{Quantifier}
+use Rattle.eb_syntax.specs.declared.ast.Quantifier.TheVariants as quantifier
+use Rattle.eb_syntax.specs.declared.ast.Binder.{Binder}
+use Rattle.eb_syntax.specs.declared.ast.Binder.TheVariants as binder
 
 -- the token is this sign
 abbrev pub IsSign : Token → Sign → Type 0
@@ -122,15 +120,6 @@ abbrev pub closing_sign : Operator → Option Sign
 closing_sign op.Apply = Some s.RightParenthesis
 closing_sign op.Image = Some s.RightBracket
 closing_sign _ = None
-
--- `==` on signs
-unfoldable pub same_sign : Sign → Sign → Bool
-same_sign = sameb the_type
-
--- whether the token is this sign
-abbrev pub is_kind : Sign → TokenKind → Bool
-is_kind sign (kind.Sign r) = same_sign r sign
-is_kind sign _ = false
 
 abbrev pub is_sign : Sign → Token → Bool
 is_sign sign t = is_kind sign t.kind

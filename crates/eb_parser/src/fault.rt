@@ -28,7 +28,7 @@ impl From<AllocError> for ParseFault {
 }
 
 /// Why a reading ended without a formula.
-#[derive(Clone, Copy, Debug, PartialEq, Eq)]
+#[derive(Clone, Copy)]
 pub enum Fault {
     /// No formula begins here.
     Syntax,
@@ -37,9 +37,11 @@ pub enum Fault {
 }
 
 /// Why a step of the reader gave nothing.
-#[derive(Debug, Drop)]
+#[derive(Drop)]
 pub enum Stop {
+    /// Memory ran out.
     Memory,
+    /// No formula is read.
     Fault(Fault),
 }
 

@@ -1,15 +1,16 @@
 ghost use Rattle.std.specs.Prelude.{◌≡◌, ◌-◌, ◌<◌, ◌≤◌, ◌⊎◌, ◌^◌, ℕ, length, drop, IfOk, IfErr, Ok, Err};
-ghost use Rattle.eb_term.specs.declared.ast.Ast.{Ast};
+ghost use Rattle.eb_syntax.specs.declared.ast.Ast.{Ast};
 ghost use Rattle.eb_parser.specs.declared.fault.ParseFault.TheVariants as fault;
 ghost use Rattle.eb_parser.specs.Formulas as spec;
-ghost use Rattle.eb_parser.specs.Fronts as fronts;
+ghost use Rattle.eb_parser.specs.steps.Finding as steps;
 
 use super::fault::{Fault, ParseFault, Stop};
 use super::part::Part;
+use super::positions::{place_of, tokens_from};
 use super::reading::read;
 use super::table::{is_expr, is_pred, level};
 use eb_lexer::{Token, Tokens};
-use eb_term::Ast;
+use eb_syntax::Ast;
 use std::alloc::Global;
 
 /// The kinds of formulas.
@@ -42,36 +43,6 @@ fn fits(kind: FormulaKind, level: u32) -> bool
     }
 }
 
-/// The tokens from this number on.
-fn from_on(tokens: &[Token], from: u32) -> &[Token]
-    ensures { result.now ≡ drop from tokens.now }
-{
-    match tokens.get(from as usize..) {
-        Some(rest) => rest,
-        None => &[],
-    }
-}
-
-/// The end of the last token, or 0.
-fn end_of(tokens: &[Token]) -> u32
-    ensures { result ≡ spec.end_of tokens.now }
-{
-    match tokens.last() {
-        Some(token) => token.end,
-        None => 0,
-    }
-}
-
-/// The place of the token with this number, or the end of the last token where there is none.
-fn place_of(tokens: &[Token], from: u32) -> u32
-    ensures { result ≡ spec.place_of tokens.now from }
-{
-    match from_on(tokens, from) {
-        [first, ..] => first.start,
-        [] => end_of(tokens),
-    }
-}
-
 /// The longest formula of the kind at the token with the number `from`, and the number of the token behind it.
 ///
 /// The grammar is that of Métayer and Voisin, "The Event-B Mathematical Language" (2009). There are fewer than 2^32 tokens.
@@ -90,12 +61,12 @@ pub fn formula(
     requires { length tokens.now < 2 ^ 32 }
     ensures found { IfOk result (λ x. (h : ℕ) × (h ≤ 200) × spec.IsLongest kind tokens.now from x.1 x.0 h) }
     ensures cause { IfErr result (λ f. spec.IsFaultOf kind tokens.now from f) }
-    ensures exact { fronts.Finds tokens.now result (fronts.formula_at 201 kind (drop from tokens.now)) }
+    ensures exact { steps.Finds tokens.now result (steps.formula_at 201 kind (drop from tokens.now)) }
     ensures high { (end : ℕ) (a : Ast) (h : ℕ) → spec.IsLongest kind tokens.now from end a h → 200 < h → (result ≡ Err fault.TooDeep) ⊎ (result ≡ Err fault.Memory) }
     ensures complete { (end : ℕ) (a : Ast) (h : ℕ) → spec.IsLongest kind tokens.now from end a h → h ≤ 200 → (spec.Continues (drop end tokens.now) → ⊥) → (result ≡ Ok (a, end)) ⊎ (result ≡ Err fault.Memory) }
 {
     let tokens = tokens.as_slice();
-    match read(alloc, HEIGHT + 1, least_of(kind), from_on(tokens, from)) {
+    match read(alloc, HEIGHT + 1, least_of(kind), tokens_from(tokens, from)) {
         Ok((part, rest)) => {
             if !fits(kind, part.level) {
                 return Err(ParseFault::Syntax(place_of(tokens, from)));

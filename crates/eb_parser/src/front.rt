@@ -1,44 +1,27 @@
 ghost use Rattle.std.specs.Prelude.{◌≡◌, ◌<◌, ◌≤◌, ◌+◌, ◌^◌, IfOk};
-ghost use Rattle.eb_parser.specs.Signs as signs;
-ghost use Rattle.eb_parser.specs.Tables as tables;
-ghost use Rattle.eb_parser.specs.Reading as spec;
-ghost use Rattle.eb_parser.specs.Reading.{Gives};
+ghost use Rattle.eb_parser.specs.steps.Tables as tables;
+ghost use Rattle.eb_parser.specs.steps.Climbing as spec;
+ghost use Rattle.eb_parser.specs.steps.Climbing.{Gives};
 
 use super::fault::{Fault, Stop};
 use super::part::Part;
 use super::table::{Follow, admits, follow_of, level_of, row_of};
 use eb_lexer::{Sign, Token, TokenKind};
-use eb_term::{Identifier, Mark};
+use eb_syntax::{Identifier, Mark};
 use std::alloc::Global;
 
-#[tactic(auto, unfolding(crate::specs::Signs::same_sign))]
-fn same_sign(left: Sign, right: Sign) -> bool
-    ensures { result ≡ signs.same_sign left right }
-{
-    left == right
-}
-
 /// Whether the first token is this sign.
-pub fn begins(sign: Sign, tokens: &[Token]) -> bool
+pub(crate) fn begins(sign: Sign, tokens: &[Token]) -> bool
     ensures { result ≡ spec.begins sign tokens.now }
 {
     match tokens {
-        [first, ..] => is_kind(sign, &first.kind),
+        [first, ..] => first.kind.is_sign(sign),
         [] => false,
     }
 }
 
-fn is_kind(sign: Sign, kind: &TokenKind) -> bool
-    ensures { result ≡ signs.is_kind sign kind.now }
-{
-    match kind {
-        TokenKind::Sign(found) => same_sign(*found, sign),
-        _ => false,
-    }
-}
-
 /// The tokens behind the first.
-pub fn after_first(tokens: &[Token]) -> &[Token]
+pub(crate) fn after_first(tokens: &[Token]) -> &[Token]
     ensures { result.now ≡ spec.after_first tokens.now }
 {
     match tokens {
@@ -48,8 +31,8 @@ pub fn after_first(tokens: &[Token]) -> &[Token]
 }
 
 /// The tokens behind this sign.
-#[tactic(auto, unfolding(crate::specs::Reading::after_sign))]
-pub fn after_sign(sign: Sign, tokens: &[Token]) -> Result<&[Token], Stop>
+#[tactic(auto, unfolding(crate::specs::steps::Climbing::after_sign))]
+pub(crate) fn after_sign(sign: Sign, tokens: &[Token]) -> Result<&[Token], Stop>
     ensures { Gives (λ x. x.now) result (spec.after_sign sign tokens.now) }
 {
     if begins(sign, tokens) {
@@ -60,7 +43,7 @@ pub fn after_sign(sign: Sign, tokens: &[Token]) -> Result<&[Token], Stop>
 }
 
 /// The tokens behind this sign, where there is to be one.
-pub fn after_closing(sign: Option<Sign>, tokens: &[Token]) -> Result<&[Token], Stop>
+pub(crate) fn after_closing(sign: Option<Sign>, tokens: &[Token]) -> Result<&[Token], Stop>
     ensures { Gives (λ x. x.now) result (spec.after_closing sign tokens.now) }
 {
     match sign {
@@ -88,7 +71,7 @@ fn head_follow(tokens: &[Token]) -> Option<Follow>
 }
 
 /// What the formula goes on with, at the least level or above.
-pub fn next_follow(least: u32, part: &Part, tokens: &[Token]) -> Option<Follow>
+pub(crate) fn next_follow(least: u32, part: &Part, tokens: &[Token]) -> Option<Follow>
     ensures { result ≡ spec.next_follow least part.now (tables.head_follow tokens.now) }
 {
     match head_follow(tokens) {
@@ -113,7 +96,7 @@ fn name_of(alloc: Global, token: &Token) -> Result<Identifier, Stop>
 }
 
 /// The identifier at the front, and the tokens behind it.
-pub fn name_at(alloc: Global, tokens: &[Token]) -> Result<(Identifier, &[Token]), Stop>
+pub(crate) fn name_at(alloc: Global, tokens: &[Token]) -> Result<(Identifier, &[Token]), Stop>
     ensures { Gives (λ x. (x.0, x.1.now)) result (spec.name_at tokens.now) }
 {
     match tokens {
@@ -126,8 +109,8 @@ pub fn name_at(alloc: Global, tokens: &[Token]) -> Result<(Identifier, &[Token])
 }
 
 /// Whether a comma stands at the front, or a dot; and the tokens behind it.
-#[tactic(auto, unfolding(crate::specs::Reading::separator))]
-pub fn separator(tokens: &[Token]) -> Result<(bool, &[Token]), Stop>
+#[tactic(auto, unfolding(crate::specs::steps::Climbing::separator))]
+pub(crate) fn separator(tokens: &[Token]) -> Result<(bool, &[Token]), Stop>
     ensures { Gives (λ x. (x.0, x.1.now)) result (spec.separator tokens.now) }
 {
     if begins(Sign::Comma, tokens) {
@@ -164,7 +147,7 @@ fn mark_of(alloc: Global, token: &Token) -> Result<Mark, Stop>
 }
 
 /// The token of a pattern at the front.
-pub fn mark_at(alloc: Global, tokens: &[Token]) -> Result<Mark, Stop>
+pub(crate) fn mark_at(alloc: Global, tokens: &[Token]) -> Result<Mark, Stop>
     ensures { Gives (λ x. x) result (spec.mark_at tokens.now) }
 {
     match tokens {
@@ -174,7 +157,7 @@ pub fn mark_at(alloc: Global, tokens: &[Token]) -> Result<Mark, Stop>
 }
 
 /// Whether an atom of a pattern is due behind the mark, and within how many parentheses.
-pub fn state_after(due: bool, depth: usize, mark: &Mark) -> Result<(bool, usize), Stop>
+pub(crate) fn state_after(due: bool, depth: usize, mark: &Mark) -> Result<(bool, usize), Stop>
     requires { depth + 1 < 2 ^ 64 }
     ensures exact { Gives (λ x. x) result (spec.state_after due depth mark.now) }
     ensures low { IfOk result (λ x. x.1 ≤ depth + 1) }
@@ -189,7 +172,7 @@ pub fn state_after(due: bool, depth: usize, mark: &Mark) -> Result<(bool, usize)
 }
 
 /// Whether the pattern ends before the dot at the front.
-pub fn ends_pattern(due: bool, depth: usize, tokens: &[Token]) -> bool
+pub(crate) fn ends_pattern(due: bool, depth: usize, tokens: &[Token]) -> bool
     ensures { result ≡ spec.ends_pattern due depth tokens.now }
 {
     !due && depth == 0 && begins(Sign::Dot, tokens)

@@ -7,16 +7,13 @@ mod front;
 mod laws;
 mod names;
 mod part;
+mod positions;
 mod reading;
-mod signs;
-mod spelling;
 mod table;
 
 pub use fault::ParseFault;
 pub use formulas::{FormulaKind, formula};
-pub use laws::{a_formula_has_one_reading, a_formula_reads_back, formulas_are_found_at_the_front};
+pub use laws::{a_formula_has_one_reading, formulas_are_found_at_the_front};
 pub use part::Part;
-pub use spelling::spell;
-
-#[cfg(test)]
-mod tests;
+pub use positions::{place_of, tokens_from};
+pub use table::closing_sign;

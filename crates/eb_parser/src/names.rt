@@ -1,15 +1,15 @@
 ghost use Rattle.std.specs.Prelude.{length, true};
-ghost use Rattle.eb_parser.specs.Reading as spec;
-ghost use Rattle.eb_parser.specs.Reading.{Gives};
+ghost use Rattle.eb_parser.specs.steps.Climbing as spec;
+ghost use Rattle.eb_parser.specs.steps.Climbing.{Gives};
 
 use super::fault::{Fault, Stop};
 use super::front::{after_first, ends_pattern, mark_at, name_at, separator, state_after};
 use eb_lexer::Token;
-use eb_term::{Binder, Bound, Identifiers, Pattern};
+use eb_syntax::{Binder, Bound, Identifiers, Pattern};
 use std::alloc::Global;
 
 /// Names parted by commas, and the tokens behind the dot that ends them.
-pub fn names(alloc: Global, tokens: &[Token]) -> Result<(Identifiers, &[Token]), Stop>
+pub(crate) fn names(alloc: Global, tokens: &[Token]) -> Result<(Identifiers, &[Token]), Stop>
     ensures { Gives (λ x. (x.0, x.1.now)) result (spec.names (length tokens.now) tokens.now) }
 {
     let mut names = Identifiers::new(alloc);
@@ -47,8 +47,12 @@ fn pattern(alloc: Global, tokens: &[Token]) -> Result<(Pattern, &[Token]), Stop>
 }
 
 /// What the binder binds, and the tokens behind the dot that ends it.
-#[tactic(auto, unfolding(crate::specs::Reading::binding))]
-pub fn binding(alloc: Global, binder: Binder, tokens: &[Token]) -> Result<(Bound, &[Token]), Stop>
+#[tactic(auto, unfolding(crate::specs::steps::Climbing::binding))]
+pub(crate) fn binding(
+    alloc: Global,
+    binder: Binder,
+    tokens: &[Token],
+) -> Result<(Bound, &[Token]), Stop>
     ensures { Gives (λ x. (x.0, x.1.now)) result (spec.binding binder tokens.now) }
 {
     match binder {

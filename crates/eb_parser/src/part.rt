@@ -1,10 +1,10 @@
 ghost use Rattle.std.specs.Prelude.{◌≡◌, ◌<◌, ◌+◌, IfOk, ◌^◌};
 ghost use Rattle.eb_parser.specs.Grammar as spec;
-ghost use Rattle.eb_term.specs.Asts as trees;
+ghost use Rattle.eb_syntax.specs.Asts as trees;
 
 use super::table::{call_level, constant_level, group_of, is_pred, level, level_of, prefix_level};
 use eb_lexer::Token;
-use eb_term::{
+use eb_syntax::{
     Ast, Binder, Bound, Call, Constant, Identifiers, Node, Operator, Prefix, Quantifier,
 };
 use sqlite_items::{Boxed, Items};
@@ -13,6 +13,7 @@ use std::alloc::{AllocError, Global};
 /// A formula with what its surroundings ask of it.
 #[derive(Drop)]
 pub struct Part {
+    /// The formula.
     pub tree: Ast,
     /// The level of its head, from 0 for a predicate with `=>` to 14 for a primary expression.
     pub level: u32,
@@ -23,7 +24,7 @@ pub struct Part {
 }
 
 /// A number, an identifier or the like at its place.
-pub fn leaf(node: Node, place: u32) -> Part
+pub(crate) fn leaf(node: Node, place: u32) -> Part
     ensures { result ≡ spec.leaf 14 (trees.at place node) }
 {
     Part {
@@ -34,7 +35,8 @@ pub fn leaf(node: Node, place: u32) -> Part
     }
 }
 
-pub fn constant(constant: Constant, place: u32) -> Part
+/// A constant at its place.
+pub(crate) fn constant(constant: Constant, place: u32) -> Part
     ensures { result ≡ spec.leaf (spec.constant_level constant) (trees.constant place constant) }
 {
     Part {
@@ -48,7 +50,8 @@ pub fn constant(constant: Constant, place: u32) -> Part
     }
 }
 
-pub fn prefixed(
+/// A formula behind `not` or the `-` of a negative number, which is the token.
+pub(crate) fn prefixed(
     alloc: Global,
     token: &Token,
     prefix: Prefix,
@@ -71,7 +74,13 @@ pub fn prefixed(
     })
 }
 
-pub fn called(alloc: Global, token: &Token, call: Call, part: Part) -> Result<Part, AllocError>
+/// A formula in the parentheses of a call, whose word is the token.
+pub(crate) fn called(
+    alloc: Global,
+    token: &Token,
+    call: Call,
+    part: Part,
+) -> Result<Part, AllocError>
     requires { part.height + 1 < 2 ^ 32 }
     ensures { IfOk result (λ p. p ≡ spec.called token.now call part) }
 {
@@ -89,7 +98,7 @@ pub fn called(alloc: Global, token: &Token, call: Call, part: Part) -> Result<Pa
 }
 
 /// A formula in parentheses, whose first is the token.
-pub fn bracketed(alloc: Global, token: &Token, part: Part) -> Result<Part, AllocError>
+pub(crate) fn bracketed(alloc: Global, token: &Token, part: Part) -> Result<Part, AllocError>
     requires { part.height + 1 < 2 ^ 32 }
     ensures { IfOk result (λ p. p ≡ spec.bracketed token.now part) }
 {
@@ -111,7 +120,8 @@ pub fn bracketed(alloc: Global, token: &Token, part: Part) -> Result<Part, Alloc
     })
 }
 
-pub fn inverted(alloc: Global, part: Part) -> Result<Part, AllocError>
+/// A relation with `~` behind it.
+pub(crate) fn inverted(alloc: Global, part: Part) -> Result<Part, AllocError>
     requires { part.height + 1 < 2 ^ 32 }
     ensures { IfOk result (λ p. p ≡ spec.inverted part) }
 {
@@ -129,7 +139,8 @@ pub fn inverted(alloc: Global, part: Part) -> Result<Part, AllocError>
     })
 }
 
-pub fn joined(
+/// Two formulas with an operator between them.
+pub(crate) fn joined(
     alloc: Global,
     operator: Operator,
     left: Part,
@@ -156,7 +167,8 @@ pub fn joined(
     })
 }
 
-pub fn quantified(
+/// The body of a quantifier, whose sign is the token, with the names that it binds.
+pub(crate) fn quantified(
     alloc: Global,
     token: &Token,
     quantifier: Quantifier,
@@ -179,7 +191,8 @@ pub fn quantified(
     })
 }
 
-pub fn bound_by(
+/// The predicate and the value of a binder, whose sign is the token, with what it binds.
+pub(crate) fn bound_by(
     alloc: Global,
     token: &Token,
     binder: Binder,
@@ -206,7 +219,8 @@ pub fn bound_by(
     })
 }
 
-pub fn comprehended(
+/// A set `{x.P|E}`, whose brace is the token.
+pub(crate) fn comprehended(
     alloc: Global,
     token: &Token,
     names: Identifiers,
@@ -231,7 +245,13 @@ pub fn comprehended(
     })
 }
 
-pub fn built(alloc: Global, token: &Token, value: Part, predicate: Part) -> Result<Part, AllocError>
+/// A set `{E|P}`, whose brace is the token.
+pub(crate) fn built(
+    alloc: Global,
+    token: &Token,
+    value: Part,
+    predicate: Part,
+) -> Result<Part, AllocError>
     requires value { value.height + 1 < 2 ^ 32 }
     requires predicate { predicate.height + 1 < 2 ^ 32 }
     ensures { IfOk result (λ p. p ≡ spec.built token.now value predicate) }
@@ -251,7 +271,7 @@ pub fn built(alloc: Global, token: &Token, value: Part, predicate: Part) -> Resu
 }
 
 /// `{` and `}` apart.
-pub fn empty_braces(alloc: Global, token: &Token) -> Part
+pub(crate) fn empty_braces(alloc: Global, token: &Token) -> Part
     ensures { result ≡ spec.empty_braces token.now }
 {
     Part {
@@ -265,7 +285,8 @@ pub fn empty_braces(alloc: Global, token: &Token) -> Part
     }
 }
 
-pub fn extended(token: &Token, members: Items<Ast>, height: u32) -> Part
+/// A set of the members, the highest of which has this height; its brace is the token.
+pub(crate) fn extended(token: &Token, members: Items<Ast>, height: u32) -> Part
     requires { height + 1 < 2 ^ 32 }
     ensures { result ≡ spec.extended token.now members height }
 {
@@ -280,7 +301,8 @@ pub fn extended(token: &Token, members: Items<Ast>, height: u32) -> Part
     }
 }
 
-pub fn partitioned(token: &Token, members: Items<Ast>, height: u32) -> Part
+/// The word `partition`, which is the token, with its members, the highest of which has this height.
+pub(crate) fn partitioned(token: &Token, members: Items<Ast>, height: u32) -> Part
     requires { height + 1 < 2 ^ 32 }
     ensures { result ≡ spec.partitioned token.now members height }
 {

@@ -1,6 +1,6 @@
 ghost use Rattle.std.specs.Prelude.{◌≡◌, ◌<◌, ◌≤◌, ◌^◌, ◌-◌, ◌+◌, length, IfOk, option_map};
-ghost use Rattle.eb_parser.specs.Reading as spec;
-ghost use Rattle.eb_parser.specs.Reading.{Gives};
+ghost use Rattle.eb_parser.specs.steps.Climbing as spec;
+ghost use Rattle.eb_parser.specs.steps.Climbing.{Gives};
 
 use super::fault::{Fault, Stop};
 use super::front::{after_closing, after_first, after_sign, begins, next_follow};
@@ -14,14 +14,14 @@ use super::table::{
     prefix_level, prefix_takes, right_of, start_of, takes,
 };
 use eb_lexer::{Sign, Token, TokenKind};
-use eb_term::{Ast, Binder, Call, Identifiers, Node, Operator, Prefix, Quantifier};
+use eb_syntax::{Ast, Binder, Call, Identifiers, Node, Operator, Prefix, Quantifier};
 use sqlite_items::Items;
 use std::alloc::Global;
 
 /// The formula at the front, of a height below the depth, with operators of the least level or above; and the tokens behind it.
 #[cycle(reading)]
 #[tactic(auto, using(crate::proofs::Equations::read_below, crate::proofs::Equations::read_zero))]
-pub fn read(
+pub(crate) fn read(
     alloc: Global,
     depth: u32,
     least: u32,
@@ -81,7 +81,7 @@ fn primary_by<'a>(
     }
 }
 
-#[tactic(auto, unfolding(crate::specs::Reading::leaf_at))]
+#[tactic(auto, unfolding(crate::specs::steps::Climbing::leaf_at))]
 fn leaf_at(least: u32, part: Part, rest: &[Token]) -> Result<(Part, &[Token]), Stop>
     ensures exact { Gives (λ x. (x.0, x.1.now)) result (spec.leaf_at least part rest.now) }
     ensures low { IfOk result (λ x. x.0 ≡ part) }
@@ -122,7 +122,7 @@ fn begun_by<'a>(
 }
 
 #[cycle(reading)]
-#[tactic(auto, unfolding(crate::specs::Reading::prefix_at))]
+#[tactic(auto, unfolding(crate::specs::steps::Climbing::prefix_at))]
 fn prefix_at<'a>(
     alloc: Global,
     depth: u32,
@@ -146,7 +146,7 @@ fn prefix_at<'a>(
 }
 
 #[cycle(reading)]
-#[tactic(auto, unfolding(crate::specs::Reading::predicate))]
+#[tactic(auto, unfolding(crate::specs::steps::Climbing::predicate))]
 fn predicate(alloc: Global, depth: u32, tokens: &[Token]) -> Result<(Part, &[Token]), Stop>
     ensures exact { Gives (λ x. (x.0, x.1.now)) result (spec.predicate (spec.read depth) tokens.now) }
     ensures low { IfOk result (λ x. x.0.height < depth) }
@@ -159,7 +159,7 @@ fn predicate(alloc: Global, depth: u32, tokens: &[Token]) -> Result<(Part, &[Tok
 }
 
 #[cycle(reading)]
-#[tactic(auto, unfolding(crate::specs::Reading::quantifier_at))]
+#[tactic(auto, unfolding(crate::specs::steps::Climbing::quantifier_at))]
 fn quantifier_at<'a>(
     alloc: Global,
     depth: u32,
@@ -181,7 +181,7 @@ fn quantifier_at<'a>(
 }
 
 #[cycle(reading)]
-#[tactic(auto, unfolding(crate::specs::Reading::call_at))]
+#[tactic(auto, unfolding(crate::specs::steps::Climbing::call_at))]
 fn call_at<'a>(
     alloc: Global,
     depth: u32,
@@ -208,7 +208,7 @@ fn call_at<'a>(
 
 /// A formula of either kind in parentheses: its kind says which production it is.
 #[cycle(reading)]
-#[tactic(auto, unfolding(crate::specs::Reading::parentheses_at))]
+#[tactic(auto, unfolding(crate::specs::steps::Climbing::parentheses_at))]
 fn parentheses_at<'a>(
     alloc: Global,
     depth: u32,
@@ -261,7 +261,7 @@ fn row(
 }
 
 #[cycle(reading)]
-#[tactic(auto, unfolding(crate::specs::Reading::partition_at))]
+#[tactic(auto, unfolding(crate::specs::steps::Climbing::partition_at))]
 fn partition_at<'a>(
     alloc: Global,
     depth: u32,
@@ -285,7 +285,7 @@ fn partition_at<'a>(
 
 /// A predicate, a bar and an expression.
 #[cycle(reading)]
-#[tactic(auto, unfolding(crate::specs::Reading::body))]
+#[tactic(auto, unfolding(crate::specs::steps::Climbing::body))]
 fn body(alloc: Global, depth: u32, tokens: &[Token]) -> Result<(Part, Part, &[Token]), Stop>
     ensures exact { Gives (λ x. (x.0, x.1, x.2.now)) result (spec.body (spec.read depth) tokens.now) }
     ensures low { IfOk result (λ x. (x.0.height < depth) × (x.1.height < depth)) }
@@ -297,7 +297,7 @@ fn body(alloc: Global, depth: u32, tokens: &[Token]) -> Result<(Part, Part, &[To
 }
 
 #[cycle(reading)]
-#[tactic(auto, unfolding(crate::specs::Reading::binder_at))]
+#[tactic(auto, unfolding(crate::specs::steps::Climbing::binder_at))]
 fn binder_at<'a>(
     alloc: Global,
     depth: u32,
@@ -321,7 +321,7 @@ fn binder_at<'a>(
 
 /// Behind the names and the dot in braces.
 #[cycle(reading)]
-#[tactic(auto, unfolding(crate::specs::Reading::comprehension_at))]
+#[tactic(auto, unfolding(crate::specs::steps::Climbing::comprehension_at))]
 fn comprehension_at<'a>(
     alloc: Global,
     depth: u32,
@@ -341,7 +341,7 @@ fn comprehension_at<'a>(
 
 /// Behind the expression and the bar in braces.
 #[cycle(reading)]
-#[tactic(auto, unfolding(crate::specs::Reading::builder_at))]
+#[tactic(auto, unfolding(crate::specs::steps::Climbing::builder_at))]
 fn builder_at<'a>(
     alloc: Global,
     depth: u32,
@@ -361,7 +361,7 @@ fn builder_at<'a>(
 
 /// Behind the first expression in braces.
 #[cycle(reading)]
-#[tactic(auto, unfolding(crate::specs::Reading::extension_at))]
+#[tactic(auto, unfolding(crate::specs::steps::Climbing::extension_at))]
 fn extension_at<'a>(
     alloc: Global,
     depth: u32,
@@ -380,7 +380,7 @@ fn extension_at<'a>(
 }
 
 #[cycle(reading)]
-#[tactic(auto, unfolding(crate::specs::Reading::members_at))]
+#[tactic(auto, unfolding(crate::specs::steps::Climbing::members_at))]
 fn members_at<'a>(
     alloc: Global,
     depth: u32,
@@ -401,7 +401,7 @@ fn members_at<'a>(
 
 /// Behind a brace: names and a dot begin a comprehension.
 #[cycle(reading)]
-#[tactic(auto, unfolding(crate::specs::Reading::brace_at))]
+#[tactic(auto, unfolding(crate::specs::steps::Climbing::brace_at))]
 fn brace_at<'a>(
     alloc: Global,
     depth: u32,
@@ -430,7 +430,7 @@ fn brace_at<'a>(
 
 /// The second part of an operator, and the tokens behind the bracket that closes.
 #[cycle(reading)]
-#[tactic(auto, unfolding(crate::specs::Reading::operand_at))]
+#[tactic(auto, unfolding(crate::specs::steps::Climbing::operand_at))]
 fn operand_at(
     alloc: Global,
     depth: u32,
@@ -451,7 +451,7 @@ fn operand_at(
 
 /// The formula with what goes on with it, and the tokens behind that; or the formula alone, where no operand can be read.
 #[cycle(reading)]
-#[tactic(auto, unfolding(crate::specs::Reading::turn))]
+#[tactic(auto, unfolding(crate::specs::steps::Climbing::turn))]
 fn turn(
     alloc: Global,
     depth: u32,

@@ -2,14 +2,14 @@ ghost use Rattle.std.specs.Prelude.{◌≡◌};
 ghost use Rattle.eb_parser.specs.Signs as signs;
 ghost use Rattle.eb_parser.specs.Grammar as spec;
 ghost use Rattle.eb_parser.specs.Levels as levels;
-ghost use Rattle.eb_parser.specs.Reading as reading;
-ghost use Rattle.eb_parser.specs.Tables as tables;
+ghost use Rattle.eb_parser.specs.steps.Climbing as reading;
+ghost use Rattle.eb_parser.specs.steps.Tables as tables;
 
 use eb_lexer::Sign;
-use eb_term::{Binder, Call, Constant, Operator, Prefix, Quantifier};
+use eb_syntax::{Binder, Call, Constant, Operator, Prefix, Quantifier};
 
 /// The operators with one row in the table of levels.
-#[derive(Clone, Copy, Debug, PartialEq, Eq)]
+#[derive(Clone, Copy)]
 pub enum Group {
     /// `=>` and `<=>`
     Implication,
@@ -18,7 +18,7 @@ pub enum Group {
     /// `&`
     Conjunction,
     /// `=`, `:` and the like
-    Relation,
+    Comparison,
     /// `|->`
     Maplet,
     /// `<->`, `-->` and the like
@@ -26,40 +26,51 @@ pub enum Group {
     /// `\/`, `;` and the like
     Set,
     /// `..`
-    Range,
+    Interval,
     /// `+` and `-`
     Sum,
     /// `*`, `/` and `mod`
-    Product,
+    Multiplication,
     /// `^`
-    Power,
+    Exponentiation,
     /// `f(x)`, `r[s]` and `r~`
     Post,
 }
 
 /// What follows a formula and goes on with it.
-#[derive(Clone, Copy, Debug, PartialEq, Eq)]
+#[derive(Clone, Copy)]
 pub enum Follow {
+    /// An operator and its second part.
     Operator(Operator),
+    /// `~`
     Inverse,
 }
 
 /// What a sign begins.
-#[derive(Clone, Copy, Debug, PartialEq, Eq)]
+#[derive(Clone, Copy)]
 pub enum Start {
+    /// A constant.
     Constant(Constant),
+    /// `not` or the `-` of a negative number.
     Prefix(Prefix),
+    /// A quantified predicate.
     Quantifier(Quantifier),
+    /// An expression that binds names.
     Binder(Binder),
+    /// A word with its part in parentheses.
     Call(Call),
+    /// `partition`
     Partition,
+    /// A formula in parentheses.
     Parenthesis,
+    /// A set in braces.
     Brace,
+    /// No formula.
     Other,
 }
 
 /// The row of an operator in the table of levels.
-pub fn group_of(operator: Operator) -> Group
+pub(crate) fn group_of(operator: Operator) -> Group
     ensures { result ≡ spec.group_of operator }
 {
     match operator {
@@ -67,18 +78,18 @@ pub fn group_of(operator: Operator) -> Group
         Operator::Equivalent => Group::Implication,
         Operator::Or => Group::Disjunction,
         Operator::And => Group::Conjunction,
-        Operator::Equal => Group::Relation,
-        Operator::Unequal => Group::Relation,
-        Operator::MemberOf => Group::Relation,
-        Operator::NotMemberOf => Group::Relation,
-        Operator::SubsetOf => Group::Relation,
-        Operator::NotSubsetOf => Group::Relation,
-        Operator::ProperSubsetOf => Group::Relation,
-        Operator::NotProperSubsetOf => Group::Relation,
-        Operator::Less => Group::Relation,
-        Operator::AtMost => Group::Relation,
-        Operator::Greater => Group::Relation,
-        Operator::AtLeast => Group::Relation,
+        Operator::Equal => Group::Comparison,
+        Operator::Unequal => Group::Comparison,
+        Operator::MemberOf => Group::Comparison,
+        Operator::NotMemberOf => Group::Comparison,
+        Operator::SubsetOf => Group::Comparison,
+        Operator::NotSubsetOf => Group::Comparison,
+        Operator::ProperSubsetOf => Group::Comparison,
+        Operator::NotProperSubsetOf => Group::Comparison,
+        Operator::Less => Group::Comparison,
+        Operator::AtMost => Group::Comparison,
+        Operator::Greater => Group::Comparison,
+        Operator::AtLeast => Group::Comparison,
         Operator::MapsTo => Group::Maplet,
         Operator::Relation => Group::Arrow,
         Operator::TotalRelation => Group::Arrow,
@@ -104,20 +115,20 @@ pub fn group_of(operator: Operator) -> Group
         Operator::Override => Group::Set,
         Operator::DirectProduct => Group::Set,
         Operator::ParallelProduct => Group::Set,
-        Operator::UpTo => Group::Range,
+        Operator::UpTo => Group::Interval,
         Operator::Plus => Group::Sum,
         Operator::Minus => Group::Sum,
-        Operator::Times => Group::Product,
-        Operator::Divide => Group::Product,
-        Operator::Modulo => Group::Product,
-        Operator::Power => Group::Power,
+        Operator::Times => Group::Multiplication,
+        Operator::Divide => Group::Multiplication,
+        Operator::Modulo => Group::Multiplication,
+        Operator::Power => Group::Exponentiation,
         Operator::Apply => Group::Post,
         Operator::Image => Group::Post,
     }
 }
 
 /// What the sign begins.
-pub fn start_of(sign: Sign) -> Start
+pub(crate) fn start_of(sign: Sign) -> Start
     ensures { result ≡ tables.start_of sign }
 {
     match sign {
@@ -159,7 +170,7 @@ pub fn start_of(sign: Sign) -> Start
 }
 
 /// How the sign goes on with a formula before it.
-pub fn follow_of(sign: Sign) -> Option<Follow>
+pub(crate) fn follow_of(sign: Sign) -> Option<Follow>
     ensures { result ≡ tables.follow_of sign }
 {
     let operator = match sign {
@@ -220,7 +231,7 @@ pub fn follow_of(sign: Sign) -> Option<Follow>
 }
 
 /// The row of what goes on with a formula.
-pub fn row_of(follow: Follow) -> Group
+pub(crate) fn row_of(follow: Follow) -> Group
     ensures { result ≡ tables.row_of follow }
 {
     match follow {
@@ -229,7 +240,7 @@ pub fn row_of(follow: Follow) -> Group
     }
 }
 
-/// The bracket that closes behind the second part.
+/// The sign that closes behind the second part of an operator: the closing bracket of an application and an image.
 pub fn closing_sign(operator: Operator) -> Option<Sign>
     ensures { result ≡ signs.closing_sign operator }
 {
@@ -241,107 +252,109 @@ pub fn closing_sign(operator: Operator) -> Option<Sign>
 }
 
 /// The levels of formulas, from the loosest to the tightest.
-pub mod level {
+pub(crate) mod level {
     /// A connective `=>` or `<=>` with its two parts.
-    pub const PRED: u32 = 0;
-
-    pub const DISJUNCTION: u32 = 1;
-
-    pub const CONJUNCTION: u32 = 2;
+    pub(crate) const PRED: u32 = 0;
+    /// `or` with its parts.
+    pub(crate) const DISJUNCTION: u32 = 1;
+    /// `&` with its parts.
+    pub(crate) const CONJUNCTION: u32 = 2;
     /// A predicate without connective, or in parentheses.
-    pub const LIT: u32 = 3;
+    pub(crate) const LIT: u32 = 3;
     /// `%`, `UNION` and `INTER`.
-    pub const EXPR: u32 = 4;
-
-    pub const MAPLET: u32 = 5;
-
-    pub const ARROW: u32 = 6;
-
-    pub const SET: u32 = 7;
-
-    pub const RANGE: u32 = 8;
-
-    pub const SUM: u32 = 9;
-
-    pub const PROD: u32 = 10;
-
-    pub const NEG: u32 = 11;
-
-    pub const POWER: u32 = 12;
-
-    pub const POST: u32 = 13;
-
-    pub const PRIM: u32 = 14;
+    pub(crate) const EXPR: u32 = 4;
+    /// `|->` with its two parts.
+    pub(crate) const MAPLET: u32 = 5;
+    /// `<->`, `-->` and the like with their two parts.
+    pub(crate) const ARROW: u32 = 6;
+    /// `\/`, `;` and the like with their two parts.
+    pub(crate) const SET: u32 = 7;
+    /// `..` with its two parts.
+    pub(crate) const RANGE: u32 = 8;
+    /// `+` or `-` with its two parts.
+    pub(crate) const SUM: u32 = 9;
+    /// `*`, `/` or `mod` with its two parts.
+    pub(crate) const PROD: u32 = 10;
+    /// The `-` of a negative number.
+    pub(crate) const NEG: u32 = 11;
+    /// `^` with its two parts.
+    pub(crate) const POWER: u32 = 12;
+    /// `~`, an application or an image.
+    pub(crate) const POST: u32 = 13;
+    /// A name, a number, a call, a set in braces, an expression in parentheses.
+    pub(crate) const PRIM: u32 = 14;
 }
 
-pub fn is_pred(level: u32) -> bool
+/// Whether formulas of the level are predicates.
+pub(crate) fn is_pred(level: u32) -> bool
     ensures { result ≡ levels.is_pred level }
 {
     level <= level::LIT
 }
 
-pub fn is_expr(level: u32) -> bool
+/// Whether formulas of the level are expressions.
+pub(crate) fn is_expr(level: u32) -> bool
     ensures { result ≡ levels.is_expr level }
 {
     level::EXPR <= level
 }
 
 /// The level of what an operator of the group makes.
-pub fn level_of(group: Group) -> u32
+pub(crate) fn level_of(group: Group) -> u32
     ensures { result ≡ spec.level_of group }
 {
     match group {
         Group::Implication => level::PRED,
         Group::Disjunction => level::DISJUNCTION,
         Group::Conjunction => level::CONJUNCTION,
-        Group::Relation => level::LIT,
+        Group::Comparison => level::LIT,
         Group::Maplet => level::MAPLET,
         Group::Arrow => level::ARROW,
         Group::Set => level::SET,
-        Group::Range => level::RANGE,
+        Group::Interval => level::RANGE,
         Group::Sum => level::SUM,
-        Group::Product => level::PROD,
-        Group::Power => level::POWER,
+        Group::Multiplication => level::PROD,
+        Group::Exponentiation => level::POWER,
         Group::Post => level::POST,
     }
 }
 
 /// Whether a formula of the level may stand to the left.
-pub fn admits(group: Group, level: u32) -> bool
+pub(crate) fn admits(group: Group, level: u32) -> bool
     ensures { result ≡ spec.admits group level }
 {
     match group {
         Group::Implication => level::DISJUNCTION <= level && level <= level::LIT,
         Group::Disjunction => level == level::DISJUNCTION || level == level::LIT,
         Group::Conjunction => level::CONJUNCTION <= level && level <= level::LIT,
-        Group::Relation => level::EXPR <= level,
+        Group::Comparison => level::EXPR <= level,
         Group::Maplet => level::MAPLET <= level,
         Group::Arrow => level::ARROW <= level,
         Group::Set => level::SET <= level,
-        Group::Range => level::SUM <= level,
+        Group::Interval => level::SUM <= level,
         Group::Sum => level::SUM <= level,
-        Group::Product => level::PROD <= level,
-        Group::Power => level::POST <= level,
+        Group::Multiplication => level::PROD <= level,
+        Group::Exponentiation => level::POST <= level,
         Group::Post => level::POST <= level,
     }
 }
 
 /// The least level of what stands to the right, or in the brackets.
-pub fn right_of(group: Group) -> u32
+pub(crate) fn right_of(group: Group) -> u32
     ensures { result ≡ spec.right_of group }
 {
     match group {
         Group::Implication => level::DISJUNCTION,
         Group::Disjunction => level::LIT,
         Group::Conjunction => level::LIT,
-        Group::Relation => level::EXPR,
+        Group::Comparison => level::EXPR,
         Group::Maplet => level::ARROW,
         Group::Arrow => level::SET,
         Group::Set => level::RANGE,
-        Group::Range => level::SUM,
+        Group::Interval => level::SUM,
         Group::Sum => level::PROD,
-        Group::Product => level::NEG,
-        Group::Power => level::NEG,
+        Group::Multiplication => level::NEG,
+        Group::Exponentiation => level::NEG,
         Group::Post => level::EXPR,
     }
 }
@@ -356,7 +369,7 @@ fn joins_predicates(group: Group) -> bool
 }
 
 /// Whether a formula of the level may stand to the right, or in the brackets.
-pub fn takes(group: Group, level: u32) -> bool
+pub(crate) fn takes(group: Group, level: u32) -> bool
     ensures { result ≡ spec.takes group level }
 {
     right_of(group) <= level
@@ -367,7 +380,8 @@ pub fn takes(group: Group, level: u32) -> bool
         })
 }
 
-pub fn constant_level(constant: Constant) -> u32
+/// The level of a constant.
+pub(crate) fn constant_level(constant: Constant) -> u32
     ensures { result ≡ spec.constant_level constant }
 {
     match constant {
@@ -377,7 +391,8 @@ pub fn constant_level(constant: Constant) -> u32
     }
 }
 
-pub fn prefix_level(prefix: Prefix) -> u32
+/// The level of what a prefix makes.
+pub(crate) fn prefix_level(prefix: Prefix) -> u32
     ensures { result ≡ spec.prefix_level prefix }
 {
     match prefix {
@@ -386,7 +401,8 @@ pub fn prefix_level(prefix: Prefix) -> u32
     }
 }
 
-pub fn prefix_takes(prefix: Prefix, level: u32) -> bool
+/// Whether a formula of the level may stand behind the prefix.
+pub(crate) fn prefix_takes(prefix: Prefix, level: u32) -> bool
     ensures { result ≡ spec.prefix_takes prefix level }
 {
     match prefix {
@@ -395,7 +411,8 @@ pub fn prefix_takes(prefix: Prefix, level: u32) -> bool
     }
 }
 
-pub fn call_level(call: Call) -> u32
+/// The level of a call.
+pub(crate) fn call_level(call: Call) -> u32
     ensures { result ≡ spec.call_level call }
 {
     match call {
@@ -405,7 +422,7 @@ pub fn call_level(call: Call) -> u32
 }
 
 /// The least level of what a call is of.
-pub fn call_least(call: Call) -> u32
+pub(crate) fn call_least(call: Call) -> u32
     ensures { result ≡ reading.call_least call }
 {
     match call {
@@ -414,7 +431,8 @@ pub fn call_least(call: Call) -> u32
     }
 }
 
-pub fn call_takes(call: Call, level: u32) -> bool
+/// Whether a formula of the level may stand in the parentheses of the call.
+pub(crate) fn call_takes(call: Call, level: u32) -> bool
     ensures { result ≡ spec.call_takes call level }
 {
     match call {

@@ -1,12 +1,12 @@
 -- The free names of a formula by its kind.
 use Rattle.std.proofs.Common.{◌≡◌, ◌∙◌, ◌++◌, List, [], ◌∷◌, map, ap, refl, rules}
 use Rattle.std.specs.List.{flat_map}
-use Rattle.eb_term.specs.declared.ast.Ast.{Ast, the_lemmas}
-use Rattle.eb_term.specs.declared.ast.Node.TheVariants as node
-use Rattle.eb_term.specs.declared.ast.Quantifier.{Quantifier}
-use Rattle.eb_term.specs.declared.ast.Binder.{Binder}
-use Rattle.eb_term.specs.declared.ast.Bound.{Bound}
-use Rattle.eb_term.specs.declared.ast.Identifier.{Identifier}
+use Rattle.eb_syntax.specs.declared.ast.Ast.{Ast, the_lemmas}
+use Rattle.eb_syntax.specs.declared.ast.Node.TheVariants as node
+use Rattle.eb_syntax.specs.declared.ast.Quantifier.{Quantifier}
+use Rattle.eb_syntax.specs.declared.ast.Binder.{Binder}
+use Rattle.eb_syntax.specs.declared.ast.Bound.{Bound}
+use Rattle.eb_syntax.specs.declared.ast.Identifier.{Identifier}
 use Rattle.eb_scoping.specs.FreeNames.{free, unbound, names_of, bound_names, plain_names}
 
 pub free_quantifier : (a : Ast) (q : Quantifier) (xs : List Identifier) (p : Ast) → a.node ≡ node.Quantifier q xs p → free a ≡ unbound (names_of xs) (free p)

@@ -1,20 +1,30 @@
 -- Laws of the places of contexts by their names.
-use Rattle.std.proofs.Common.{◌≡◌, ◌∙◌, ◌+◌, ◌≤◌, ◌<◌, ◌⊎◌, ℕ, zero, suc, true, false, List, [], ◌∷◌, ◌++◌, Contains, length, get_or, replicate, map, filter, sym, ap, refl, subst, arith, All, inl, inr, bytes_eq, Bor}
+use Rattle.std.proofs.Common.{◌≡◌, ◌∙◌, ◌+◌, ◌≤◌, ◌<◌, ◌⊎◌, ℕ, List, [], ◌∷◌, ◌++◌, Contains, length, get_or, map, filter, sym, ap, refl, subst, arith, All, inl, inr, bytes_eq, Bor, Some, None}
 use Rattle.std.specs.Global.{Vec}
-use Rattle.std.specs.HashMap.{HashMap}
+use Rattle.std.specs.BTreeMap.{BTreeMap, get_by}
+use Rattle.std.specs.Option.{option_map_or}
+use Rattle.std.specs.List.{slice_get}
+use Rattle.std.specs.Ordering.{nat_cmp}
+use Rattle.std.specs.Cmp.Lexicographic.{slice_cmp}
 use Rattle.std.proofs.lemmas.Bool.{cases_eq}
 use Rattle.std.proofs.lemmas.Slice.Eq.{bytes_eq-Decides}
-use Rattle.std.proofs.lemmas.List.{append-nil, get_or_default, get_or-replicate, length-replicate, get_or_past}
+use Rattle.std.proofs.lemmas.List.{append-nil, get_or_default}
 use Rattle.std.proofs.lemmas.List.Elements.{Contains-get_or, Contains-append_left, Contains-push, Contains-push_cases}
-use Rattle.eb_term.specs.declared.units.Context.{Context}
-use Rattle.eb_term.specs.declared.units.EbUnit.{EbUnit}
-use Rattle.eb_term.specs.declared.units.EbUnit.TheVariants as eb
-use Rattle.eb_scoping.specs.Walks.{IsMarkedAt, count_marks, IsWalk, IsContextAt}
-use Rattle.eb_scoping.specs.Groups.{group, IsIndex, AreHeads, seen_heads, heads_of}
-use Rattle.eb_scoping.proofs.ListLaws.{contains_none, contains_map, map_contains, filter_keeps, filter_kept}
-use Rattle.eb_scoping.proofs.SpreadLaws.{one_name}
+use Rattle.eb_syntax.specs.declared.units.Context.{Context}
+use Rattle.eb_syntax.specs.declared.units.EbUnit.{EbUnit}
+use Rattle.eb_syntax.specs.declared.units.EbUnit.TheVariants as eb
+use Rattle.eb_scoping.specs.Groups.{group, IsContextAt, IsIndex}
+use Rattle.eb_scoping.specs.steps.Heads.{AreHeads, seen_heads, heads_of}
+use Rattle.eb_scoping.proofs.ListLaws.{contains_none, contains_here, contains_map, map_contains, filter_keeps, filter_kept}
 
-pub group_inside : {S : Type 0} (us : List EbUnit) (m : HashMap (Bor (List ℕ)) (Vec ℕ) S) → IsIndex us m → (n : ℕ) → length us ≤ n → (q : List ℕ) → All (λ place. place < n) (group m q)
+-- a context at a place has one name
+pub one_name : (us : List EbUnit) (i : ℕ) (x : List ℕ) (a : IsContextAt us i x) → (c : Context) → eb.Context c ≡ get_or us i (eb.Context c) → c.name.name ≡ x
+one_name us i x a c e = let same : eb.Context c ≡ eb.Context a.context = e ∙ (get_or_default us i (eb.Context c) (eb.Context a.context) a.inside ∙ sym a.is) in ap (λ z. z.name.name) (context_same c a.context same) ∙ a.named
+  where
+    context_same : (c d : Context) → eb.Context c ≡ eb.Context d → c ≡ d
+    context_same c d h = cc
+
+pub group_inside : (us : List EbUnit) (m : BTreeMap (Bor (List ℕ)) (Vec ℕ)) → IsIndex us m → (n : ℕ) → length us ≤ n → (q : List ℕ) → All (λ place. place < n) (group m q)
 group_inside us m index n l q = λ k d h. let low = (index.sound q (get_or (group m q) k d) (Contains-get_or (group m q) k d h)).inside in omega (arith, low, l)
 
 pub heads_none : (us : List EbUnit) → AreHeads us 0 []
@@ -40,7 +50,7 @@ module _ (us : List EbUnit) (i : ℕ) (heads : List (List ℕ × ℕ)) (old : Ar
 
       full : (x : List ℕ) (j : ℕ) → IsContextAt us j x → j < i + 1 → (j ≡ i) ⊎ (j ≡ i → ⊥) → Contains (heads ++ (c.name.name, i) ∷ []) (x, j)
       full x j a l (inl e) =
-          let named : c.name.name ≡ x = one_name us i x x (subst (λ z. IsContextAt us z x) e a) c is in
+          let named : c.name.name ≡ x = one_name us i x (subst (λ z. IsContextAt us z x) e a) c is in
           subst (λ z. Contains (heads ++ (c.name.name, i) ∷ []) (x, z)) (sym e) (subst (λ z. Contains (heads ++ (c.name.name, i) ∷ []) (z, i)) named (Contains-push heads (c.name.name, i)))
       full x j a l (inr n) = Contains-append_left heads ((c.name.name, i) ∷ []) (x, j) (old.full x j (omega (arith, l, n)) a)
 
@@ -53,7 +63,7 @@ module _ (us : List EbUnit) (i : ℕ) (heads : List (List ℕ × ℕ)) (old : Ar
       by_kind (eb.Scope s) is = heads_other (eb.Scope s) is (λ c h. absurd cc)
       by_kind (eb.Queries qs) is = heads_other (eb.Queries qs) is (λ c h. absurd cc)
 
-pub indexed : {S : Type 0} (us : List EbUnit) (heads : List (Bor (List ℕ) × ℕ)) (m : HashMap (Bor (List ℕ)) (Vec ℕ) S) → AreHeads us (length us) (seen_heads heads)
+pub indexed : (us : List EbUnit) (heads : List (Bor (List ℕ) × ℕ)) (m : BTreeMap (Bor (List ℕ)) (Vec ℕ)) → AreHeads us (length us) (seen_heads heads)
     → ((q : List ℕ) → group m q ≡ map (λ p. p.1) (filter (λ p. bytes_eq q p.0.now) heads)) → IsIndex us m
 indexed us heads m are by = record { sound = sound; full = full }
   where
@@ -72,16 +82,15 @@ indexed us heads m are by = record { sound = sound; full = full }
         subst (λ z. Contains z i) (sym (by x)) (subst (λ z. Contains (map (λ p. p.1) (filter (λ p. bytes_eq x p.0.now) heads)) z) here
         (map_contains (λ p. p.1) (filter (λ p. bytes_eq x p.0.now) heads) r.0 (filter_keeps (λ p. bytes_eq x p.0.now) heads r.0 r.1 ((bytes_eq-Decides x r.0.0.now).1 (sym same)))))
 
-pub walk_none : (n : ℕ) → IsWalk (replicate n false) []
-walk_none n = record { number = none n; bounded = λ i h. absurd (contains_none i h); listed = λ i h. absurd (unmarked i (by_size i) h) }
-  where
-    none : (k : ℕ) → count_marks (replicate k false) ≡ 0
-    none zero = refl
-    none (suc k) = none k
+pub group_some : (m : BTreeMap (Bor (List ℕ)) (Vec ℕ)) (name : List ℕ) (v : Vec ℕ) → Some v ≡ get_by (λ k. slice_cmp nat_cmp name k.now) m → group m name ≡ v.items
+group_some m name v e = ap (λ o. option_map_or (λ g. g.items) o []) (sym e)
 
-    by_size : (i : ℕ) → (i < n) ⊎ (n ≤ i)
-    by_size i = grind arith
+pub group_none : (m : BTreeMap (Bor (List ℕ)) (Vec ℕ)) (name : List ℕ) → None ≡ get_by (λ k. slice_cmp nat_cmp name k.now) m → group m name ≡ []
+group_none m name e = ap (λ o. option_map_or (λ g. g.items) o []) (sym e)
 
-    unmarked : (i : ℕ) → (i < n) ⊎ (n ≤ i) → IsMarkedAt (replicate n false) i → ⊥
-    unmarked i (inl l) h = let e : get_or (replicate n false) i false ≡ false = get_or-replicate n i false false l in let f : true ≡ false = sym h ∙ e in cc
-    unmarked i (inr l) h = let e : get_or (replicate n false) i false ≡ false = get_or_past (replicate n false) i false (rw length-replicate l) in let f : true ≡ false = sym h ∙ e in cc
+some_same : (p x : ℕ) → Some p ≡ Some x → p ≡ x
+some_same p x e = cc
+
+pub first_in : (xs : List ℕ) (p : ℕ) → Some p ≡ slice_get xs 0 → Contains xs p
+first_in [] p e = absurd cc
+first_in (x ∷ xs) p e = subst (λ z. Contains (x ∷ xs) z) (sym (some_same p x e)) (contains_here x xs)

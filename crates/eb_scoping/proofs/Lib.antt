@@ -1,7 +1,6 @@
 mod ListLaws
 mod NameLaws
 mod WalkLaws
-mod SpreadLaws
 mod IndexLaws
 mod MarkLaws
 mod UseLaws

@@ -1,10 +1,10 @@
 -- Laws of the marks of units.
 use Rattle.std.proofs.Common.{◌≡◌, ◌∙◌, ◌+◌, ◌<◌, ◌≤◌, ◌||◌, ℕ, Bool, true, false, not, List, [], ◌∷◌, ◌++◌, Option, None, Some, is_some, length, take, get_or, replicate, sym, ap, refl, subst, append-nil, append_assoc, inl}
 use Rattle.std.proofs.lemmas.List.{take_more, take_all, get_or-replicate, length-replicate}
-use Rattle.eb_term.specs.declared.units.EbUnit.{EbUnit}
-use Rattle.eb_term.specs.declared.units.EbUnit.TheVariants as eb
+use Rattle.eb_syntax.specs.declared.units.EbUnit.{EbUnit}
+use Rattle.eb_syntax.specs.declared.units.EbUnit.TheVariants as eb
 use Rattle.eb_scoping.specs.Models.{machine_of, IsModelUnit, AreMarkedBehind, AreMarked}
-use Rattle.eb_scoping.specs.Walks.{AreContextsMarked, mark_of}
+use Rattle.eb_scoping.specs.steps.Marks.{AreContextsMarked, mark_of}
 
 -- one more unit with its mark
 pub marked_more : (us before vs : List EbUnit) (bs : List Bool) (v : EbUnit) (b : Bool) → AreMarkedBehind us before vs bs → (b ≡ true → IsModelUnit us (before ++ vs) v) → (IsModelUnit us (before ++ vs) v → b ≡ true)

@@ -1,9 +1,10 @@
 -- Laws of names in lists.
-use Rattle.std.proofs.Common.{◌≡◌, ◌∙◌, ℕ, Bool, true, false, not, List, [], ◌∷◌, ◌++◌, map, filter, length, get_or, ◌<◌, ◌||◌, if◌then◌else◌, cond, append-nil, sym, ap, subst, refl, arith, zero, suc}
+use Rattle.std.proofs.Common.{◌≡◌, ◌∙◌, ℕ, Bool, true, false, not, List, [], ◌∷◌, ◌++◌, map, filter, Contains, length, get_or, ◌<◌, ◌||◌, if◌then◌else◌, cond, append-nil, sym, ap, subst, refl, arith, zero, suc}
 use Rattle.std.specs.Prelude.{bytes_eq}
 use Rattle.std.proofs.lemmas.Slice.Eq.{bytes_eq-Decides}
 use Rattle.std.proofs.lemmas.List.Elements.{filter-append}
 use Rattle.eb_scoping.specs.FreeNames.{is_among, firsts}
+use Rattle.eb_scoping.proofs.ListLaws.{contains_here, contains_there}
 
 -- a list of the names that stand behind these has a name that one of them has
 pub among_at : {A : Type 0} (f : A → List ℕ) (xs : List A) (i : ℕ) (x : A) (name : List ℕ) → i < length xs → x ≡ get_or xs i x → bytes_eq (f x) name ≡ true → true ≡ is_among (map f xs) name
@@ -49,3 +50,11 @@ firsts_more (x ∷ xs) y b e = by_case (bytes_eq x y) refl b e (firsts_more xs y
         → firsts (x ∷ xs ++ y ∷ []) ≡ (if b then firsts (x ∷ xs) else firsts (x ∷ xs) ++ y ∷ [])
     by_case true s b e ih = ap (λ w. x ∷ w) (kept (is_among (firsts xs) y) (ih (is_among (firsts xs) y) refl) s) ∙ subst (λ z. firsts (x ∷ xs) ≡ (if z then firsts (x ∷ xs) else firsts (x ∷ xs) ++ y ∷ [])) (sym (among_first s) ∙ e) refl
     by_case false s b e ih = let same : is_among (firsts xs) y ≡ b = sym (ap (λ w. w || is_among (filter (λ z. not (bytes_eq x z)) (firsts xs)) y) s ∙ among_others x y (firsts xs) s) ∙ e in other b (ih b same) s
+
+among_by : (x q : List ℕ) (xs : List (List ℕ)) (b : Bool) → bytes_eq x q ≡ b → (is_among xs q ≡ true → Contains xs q) → (b || is_among xs q) ≡ true → Contains (x ∷ xs) q
+among_by x q xs true e ih t = subst (λ z. Contains (x ∷ xs) z) ((bytes_eq-Decides x q).0 e) (contains_here x xs)
+among_by x q xs false e ih t = contains_there x xs q (ih t)
+
+pub among_contains : (xs : List (List ℕ)) (q : List ℕ) → is_among xs q ≡ true → Contains xs q
+among_contains [] q h = absurd cc
+among_contains (x ∷ xs) q h = among_by x q xs (bytes_eq x q) refl (among_contains xs q) h

@@ -1,4 +1,6 @@
 pub mod FreeNames
 pub mod Models
-pub mod Walks
+pub mod Sets
 pub mod Groups
+pub mod Walks
+pub mod steps

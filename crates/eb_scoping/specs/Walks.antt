@@ -1,54 +1,29 @@
--- A walk over the contexts of a text: which are reached so far, and a queue of these. Means of proof; no public clause names this.
-use Rattle.std.specs.Prelude.{ℕ, ◌≡◌, ◌<◌, ◌+◌, ◌⊎◌, Bool, true, false, not, List, [], ◌∷◌, ◌++◌, None, Contains, length, get_or, if◌then◌else◌}
-use Rattle.eb_term.specs.declared.units.Context.{Context}
-use Rattle.eb_term.specs.declared.units.EbUnit.{EbUnit}
-use Rattle.eb_term.specs.declared.units.EbUnit.TheVariants as eb
-use Rattle.eb_scoping.specs.Models.{machine_of, Reaches, Extends}
+-- Walks over the contexts of a text, from some names by what the contexts of these extend.
+use Rattle.std.specs.Prelude.{ℕ, ◌≡◌, ◌<◌, ◌≤◌, true, List, [], Contains, length, get_or, map}
+use Rattle.eb_syntax.specs.declared.ast.Identifier.{Identifier}
+use Rattle.eb_syntax.specs.declared.units.Context.{Context}
+use Rattle.eb_syntax.specs.declared.units.EbUnit.{EbUnit}
+use Rattle.eb_syntax.specs.declared.units.EbUnit.TheVariants as eb
+use Rattle.eb_scoping.specs.declared.contexts.Walk.{Walk}
+use Rattle.eb_scoping.specs.Sets.{has_text}
 
-abbrev pub IsMarkedAt : List Bool → ℕ → Type 0
-IsMarkedAt marks i = get_or marks i false ≡ true
+-- the name is one of these, or is reached from one of them by `extends`
+pub data Follows (us : List EbUnit) (first : List (List ℕ)) : List ℕ → Type 0 where
+  follows_first : (name : List ℕ) → Contains first name → Follows us first name
+  follows_more : (c : Context) (y : Identifier) → Follows us first c.name.name → Contains us (eb.Context c) → Contains c.extends y → Follows us first y.name
 
-abbrev pub count_marks : List Bool → ℕ
-count_marks [] = 0
-count_marks (b ∷ bs) = if b then 1 + count_marks bs else count_marks bs
+-- the names that a walk has reached, in this order
+abbrev pub reached_names : Walk → List (List ℕ)
+reached_names w = map (λ x. x.now) w.queue.items
 
--- the queue has each marked place once
-pub record IsWalk (marks : List Bool) (queue : List ℕ) : Type 0 where
-  pub number : count_marks marks ≡ length queue
-  pub bounded : (i : ℕ) → Contains queue i → i < length marks
-  pub listed : (i : ℕ) → IsMarkedAt marks i → Contains queue i
+-- the walk has what the contexts of this name extend
+abbrev pub HasBehind : List EbUnit → Walk → List ℕ → Type 0
+HasBehind us w name = (c : Context) (y : Identifier) → Contains us (eb.Context c) → c.name.name ≡ name → Contains c.extends y → has_text w.names y.name ≡ true
 
--- a walk that reached these places too, and nothing else
-pub record Moves (marks : List Bool) (queue : List ℕ) (marks' : List Bool) (queue' : List ℕ) (places : List ℕ) : Type 0 where
-  pub size : length marks' ≡ length marks
-  pub walk : IsWalk marks' queue'
-  pub kept : (i : ℕ) → IsMarkedAt marks i → IsMarkedAt marks' i
-  pub more : (rest : List ℕ) × (queue' ≡ queue ++ rest)
-  pub all : (i : ℕ) → Contains places i → IsMarkedAt marks' i
-  pub only : (i : ℕ) → Contains queue' i → Contains queue i ⊎ Contains places i
-
--- the unit at this place is a context of this name
-pub record IsContextAt (us : List EbUnit) (i : ℕ) (name : List ℕ) : Type 0 where
-  pub context : Context
-  pub inside : i < length us
-  pub is : eb.Context context ≡ get_or us i (eb.Context context)
-  pub named : context.name.name ≡ name
-
--- a mark for each unit: at a context true where the model has it
-pub record AreContextsMarked (us : List EbUnit) (marks : List Bool) : Type 0 where
-  pub size : length marks ≡ length us
-  pub sound : (i : ℕ) (name : List ℕ) → IsContextAt us i name → IsMarkedAt marks i → (machine_of us ≡ None) ⊎ Reaches us name
-  pub complete : (i : ℕ) (name : List ℕ) → IsContextAt us i name → (machine_of us ≡ None) ⊎ Reaches us name → IsMarkedAt marks i
-
--- the mark of a unit, from what is known of contexts
-abbrev pub mark_of : EbUnit → Bool → Bool → Bool
-mark_of (eb.Context c) is_context_marked is_behind_machine = is_context_marked
-mark_of (eb.Machine m) is_context_marked is_behind_machine = not is_behind_machine
-mark_of (eb.Scope s) is_context_marked is_behind_machine = false
-mark_of (eb.Queries qs) is_context_marked is_behind_machine = false
-
--- a mark for each unit: at a context true where the named context reaches it by `extends`
-pub record AreExtendedMarked (us : List EbUnit) (from : List ℕ) (marks : List Bool) : Type 0 where
-  pub size : length marks ≡ length us
-  pub sound : (i : ℕ) (name : List ℕ) → IsContextAt us i name → IsMarkedAt marks i → Extends us from name
-  pub complete : (i : ℕ) (name : List ℕ) → IsContextAt us i name → Extends us from name → IsMarkedAt marks i
+-- the walk has these first names, others only that follow from them, and what the contexts of its names in front of `done` extend
+pub record IsWalk (us : List EbUnit) (first : List (List ℕ)) (w : Walk) : Type 0 where
+  pub begins : (name : List ℕ) → Contains first name → has_text w.names name ≡ true
+  pub sound : (name : List ℕ) → Contains (reached_names w) name → Follows us first name
+  pub listed : (name : List ℕ) → has_text w.names name ≡ true → Contains (reached_names w) name
+  pub ahead : w.done ≤ length (reached_names w)
+  pub closed : (k : ℕ) → k < w.done → k < length (reached_names w) → HasBehind us w (get_or (reached_names w) k [])

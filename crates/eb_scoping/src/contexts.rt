@@ -1,24 +1,31 @@
-//! The contexts that the machine of a text reaches.
-ghost use Rattle.std.specs.Prelude.{◌≡◌, ◌++◌, ◌<◌, [], ◌∷◌, IfOk, OnOk, length, replicate, get_or, All, map, filter, Some, bytes_eq, List, ℕ};
-ghost use Rattle.std.specs.Option.{option_map_or};
-ghost use Rattle.std.specs.List.{flat_map};
-ghost use Rattle.std.specs.HashMap.{get_by};
+//! The contexts that the machine of a text reaches, and those that a context reaches.
+ghost use Rattle.std.specs.Prelude.{◌≡◌, ◌++◌, ◌<◌, ◌≤◌, ◌↔◌, IsTrue, [], ◌∷◌, false, true, IfOk, OnOk, length, get_or, All, map, filter, Some, bytes_eq, Contains, List, ℕ};
+ghost use Rattle.eb_syntax.specs.declared.units.EbUnit.{EbUnit};
 ghost use Rattle.eb_scoping.specs.Models as spec;
-ghost use Rattle.eb_scoping.specs.Walks.{IsWalk, Moves, AreContextsMarked, AreExtendedMarked};
-ghost use Rattle.eb_scoping.specs.Groups.{group, behind, IsIndex, AreHeads, Spreads, seen_heads, heads_of};
+ghost use Rattle.eb_scoping.specs.FreeNames.{names_of, is_among as is_listed};
+ghost use Rattle.eb_scoping.specs.Groups.{group, IsIndex};
+ghost use Rattle.eb_scoping.specs.Walks.{IsWalk};
+ghost use Rattle.eb_scoping.specs.steps.Heads.{AreHeads, seen_heads, heads_of};
+ghost use Rattle.eb_scoping.specs.steps.Marks.{AreContextsMarked};
+ghost use Rattle.eb_scoping.specs.steps.Marks as marking;
+ghost use Rattle.eb_scoping.specs.steps.Walking.{IsEmptyWalk, Adds, extends_of, IsBehind, IsExtendedBy, has_sought};
 
-use eb_term::{EbUnit, Identifier, Machine};
+use super::sets::{NameSet, has_name, insert_name};
+use super::uses::is_among;
+use eb_syntax::{EbUnit, Identifier, Machine};
 use std::alloc::{AllocError, Global};
-use std::collections::HashMap;
+use std::collections::{BTreeMap, BTreeSet};
 
 /// The places of the contexts of a text by their names.
-pub type Groups<'a> = HashMap<&'a str, Vec<usize>>;
+pub type Groups<'a> = BTreeMap<&'a str, Vec<usize>>;
 
-/// The contexts that are reached so far, as a mark for each unit and as a queue of places.
+/// The names that are reached by `extends` from some first ones, found as far as they were asked for: as a set, and in the order
+/// in which they were reached. What the contexts of the names in front of `done` extend is reached too.
 #[derive(Drop)]
-struct Walk {
-    marks: Vec<bool>,
-    queue: Vec<usize>,
+pub struct Walk<'a> {
+    pub(crate) names: NameSet<'a>,
+    pub(crate) queue: Vec<&'a str>,
+    pub(crate) done: usize,
 }
 
 fn push_head<'a>(
@@ -49,7 +56,7 @@ fn heads<'a>(alloc: Global, units: &'a [EbUnit]) -> Result<Vec<(&'a str, usize)>
 pub fn grouped<'a>(alloc: Global, heads: &[(&'a str, usize)]) -> Result<Groups<'a>, AllocError>
     ensures { IfOk result (λ m. (q : List ℕ) → group m q ≡ map (λ p. p.1) (filter (λ p. bytes_eq q p.0.now) heads.now)) }
 {
-    let mut groups: Groups<'a> = HashMap::new(alloc);
+    let mut groups: Groups<'a> = BTreeMap::new(alloc);
     for (name, place) in heads {
         groups.entry(*name)?.or_default().push(*place)?;
     }
@@ -64,62 +71,44 @@ pub fn context_places<'a>(alloc: Global, units: &'a [EbUnit]) -> Result<Groups<'
     grouped(alloc, &heads)
 }
 
-fn reach(walk: &mut Walk, place: usize) -> Result<(), AllocError>
-    requires walk { IsWalk walk.old.marks.items walk.old.queue.items }
-    requires inside { place < length walk.old.marks.items }
-    ensures { OnOk result (Moves walk.old.marks.items walk.old.queue.items walk.new.marks.items walk.new.queue.items (place ∷ [])) }
+/// A walk that has reached nothing.
+fn empty_walk<'a>(alloc: Global) -> Walk<'a>
+    ensures { IsEmptyWalk result }
 {
-    if !walk.marks[place] {
-        walk.marks[place] = true;
-        walk.queue.push(place)?;
+    Walk {
+        names: BTreeSet::new(alloc),
+        queue: Vec::new(alloc),
+        done: 0,
     }
+}
+
+fn reach<'a>(walk: &mut Walk<'a>, name: &'a str) -> Result<(), AllocError>
+    ensures { OnOk result (Adds walk.old walk.new (λ q. name.now ≡ q)) }
+{
+    if has_name(&walk.names, name) {
+        return Ok(());
+    }
+    insert_name(&mut walk.names, name)?;
+    walk.queue.push(name)?;
     Ok(())
 }
 
-fn reach_all(walk: &mut Walk, places: &[usize]) -> Result<(), AllocError>
-    requires walk { IsWalk walk.old.marks.items walk.old.queue.items }
-    requires inside { All (λ place. place < length walk.old.marks.items) places.now }
-    ensures { OnOk result (Moves walk.old.marks.items walk.old.queue.items walk.new.marks.items walk.new.queue.items places.now) }
-{
-    for place in places {
-        reach(walk, *place)?;
-    }
-    Ok(())
-}
-
-/// Reaches the contexts of one name.
-fn reach_name(groups: &Groups<'_>, walk: &mut Walk, name: &str) -> Result<(), AllocError>
-    requires walk { IsWalk walk.old.marks.items walk.old.queue.items }
-    requires inside { All (λ place. place < length walk.old.marks.items) (group groups.now name.now) }
-    ensures { OnOk result (Moves walk.old.marks.items walk.old.queue.items walk.new.marks.items walk.new.queue.items (group groups.now name.now)) }
-{
-    match groups.get(name) {
-        Some(places) => reach_all(walk, places),
-        None => Ok(()),
-    }
-}
-
-/// Reaches the contexts of these names.
-fn reach_names(groups: &Groups<'_>, walk: &mut Walk, names: &[Identifier]) -> Result<(), AllocError>
-    requires walk { IsWalk walk.old.marks.items walk.old.queue.items }
-    requires inside { (q : List ℕ) → All (λ place. place < length walk.old.marks.items) (group groups.now q) }
-    ensures { OnOk result (Moves walk.old.marks.items walk.old.queue.items walk.new.marks.items walk.new.queue.items (flat_map (λ x. group groups.now x.name) names.now)) }
+fn reach_names<'a>(walk: &mut Walk<'a>, names: &'a [Identifier]) -> Result<(), AllocError>
+    ensures { OnOk result (Adds walk.old walk.new (Contains (names_of names.now))) }
 {
     for name in names {
-        reach_name(groups, walk, name.name.as_str())?;
+        reach(walk, name.name.as_str())?;
     }
     Ok(())
 }
 
 /// Reaches what the unit extends.
-fn reach_behind(groups: &Groups<'_>, walk: &mut Walk, unit: &EbUnit) -> Result<(), AllocError>
-    requires walk { IsWalk walk.old.marks.items walk.old.queue.items }
-    requires inside { (q : List ℕ) → All (λ place. place < length walk.old.marks.items) (group groups.now q) }
-    ensures { OnOk result (Moves walk.old.marks.items walk.old.queue.items walk.new.marks.items walk.new.queue.items (behind groups.now unit.now)) }
+fn reach_behind<'a>(walk: &mut Walk<'a>, unit: &'a EbUnit) -> Result<(), AllocError>
+    ensures { OnOk result (Adds walk.old walk.new (Contains (extends_of unit.now))) }
 {
     match unit {
-        EbUnit::Context(context) => reach_names(groups, walk, context.extends.as_slice()),
-        EbUnit::Machine(_) | EbUnit::Scope(_) | EbUnit::Queries(_) => Ok(()),
+        EbUnit::Context(context) => reach_names(walk, context.extends.as_slice()),
+        EbUnit::Machine(_) | EbUnit::Scope(_) | EbUnit::Queries(_) => reach_names(walk, &[]),
     }
 }
 
@@ -130,33 +119,93 @@ pub(crate) fn unit_at(units: &[EbUnit], place: usize) -> &EbUnit
     &units[place]
 }
 
-/// Reaches what the reached contexts extend, and so on.
-fn spread(groups: &Groups<'_>, walk: &mut Walk, units: &[EbUnit]) -> Result<(), AllocError>
-    requires walk { IsWalk walk.old.marks.items walk.old.queue.items }
-    requires size { length walk.old.marks.items ≡ length units.now }
-    requires index { IsIndex units.now groups.now }
-    ensures { OnOk result (Spreads units.now groups.now walk.old.marks.items walk.old.queue.items walk.new.marks.items) }
+/// Reaches what the units at these places extend.
+fn reach_places<'a>(
+    walk: &mut Walk<'a>,
+    units: &'a [EbUnit],
+    places: &[usize],
+) -> Result<(), AllocError>
+    requires { All (λ place. place < length units.now) places.now }
+    ensures { OnOk result (Adds walk.old walk.new (IsBehind units.now places.now)) }
 {
-    for at in 0..units.len() {
-        if at < walk.queue.len() {
-            let unit = unit_at(units, walk.queue[at]);
-            reach_behind(groups, walk, unit)?;
-        }
+    for place in places {
+        reach_behind(walk, unit_at(units, *place))?;
     }
     Ok(())
 }
 
-/// The same mark for each unit.
-pub(crate) fn same_marks(
+/// Reaches what the contexts of this name extend.
+fn expand<'a>(
+    groups: &Groups<'_>,
+    walk: &mut Walk<'a>,
+    units: &'a [EbUnit],
+    name: &str,
+) -> Result<(), AllocError>
+    requires { IsIndex units.now groups.now }
+    ensures { OnOk result (Adds walk.old walk.new (IsExtendedBy units.now name.now)) }
+{
+    match groups.get(name) {
+        Some(places) => reach_places(walk, units, places),
+        None => reach_places(walk, units, &[]),
+    }
+}
+
+fn is_found(walk: &Walk<'_>, sought: Option<&str>) -> bool
+    ensures { result ≡ has_sought walk.now sought.entry }
+{
+    match sought {
+        Some(name) => has_name(&walk.names, name),
+        None => false,
+    }
+}
+
+/// Goes on until the sought name is reached, and answers whether it is, or until nothing is left.
+fn search<'a>(
+    groups: &Groups<'_>,
+    walk: &mut Walk<'a>,
+    units: &'a [EbUnit],
+    sought: Option<&str>,
+) -> Result<bool, AllocError>
+    requires { IsIndex units.now groups.now }
+    ensures walk { OnOk result ((first : List (List ℕ)) → IsWalk units.now first walk.old → IsWalk units.now first walk.new) }
+    ensures found { IfOk result (λ found. found ≡ has_sought walk.new sought.entry) }
+    ensures ends { IfOk result (λ found. found ≡ false → length walk.new.queue.items ≤ walk.new.done) }
+{
+    for at in walk.done..usize::MAX {
+        if is_found(walk, sought) {
+            return Ok(true);
+        }
+        if at >= walk.queue.len() {
+            return Ok(false);
+        }
+        let name = walk.queue[at];
+        expand(groups, walk, units, name)?;
+        walk.done = at + 1;
+    }
+    Ok(is_found(walk, sought))
+}
+
+/// Whether the unit is a context of one of these names.
+fn is_named_in(names: &NameSet<'_>, unit: &EbUnit) -> bool
+    ensures { result ≡ marking.is_named_in names.now unit.now }
+{
+    match unit {
+        EbUnit::Context(context) => has_name(names, context.name.name.as_str()),
+        EbUnit::Machine(_) | EbUnit::Scope(_) | EbUnit::Queries(_) => false,
+    }
+}
+
+/// A mark for each unit: true for the contexts of these names.
+fn marks_by_name(
     alloc: Global,
     units: &[EbUnit],
-    mark: bool,
+    names: &NameSet<'_>,
 ) -> Result<Vec<bool>, AllocError>
-    ensures { IfOk result (λ marks. marks.items ≡ replicate (length units.now) mark) }
+    ensures { IfOk result (λ marks. marks.items ≡ map (marking.is_named_in names.now) units.now) }
 {
     let mut marks = Vec::new(alloc);
-    for _unit in units {
-        marks.push(mark)?;
+    for unit in units {
+        marks.push(is_named_in(names, unit))?;
     }
     Ok(marks)
 }
@@ -171,31 +220,80 @@ pub(crate) fn reached(
     ensures { IfOk result (λ marks. AreContextsMarked units.now marks.items) }
 {
     let groups = context_places(alloc, units)?;
-    let mut walk = Walk {
-        marks: same_marks(alloc, units, false)?,
-        queue: Vec::new(alloc),
-    };
-    reach_names(&groups, &mut walk, machine.sees.as_slice())?;
-    spread(&groups, &mut walk, units)?;
-    Ok(walk.marks)
+    let mut walk = empty_walk(alloc);
+    reach_names(&mut walk, machine.sees.as_slice())?;
+    search(&groups, &mut walk, units, None)?;
+    marks_by_name(alloc, units, &walk.names)
 }
 
-/// A mark for each unit of a text, whose contexts have these places: true for the contexts that the context of this name reaches
-/// by `extends` in none, one or more steps. The only error is want of memory.
-pub fn extended_contexts(
-    alloc: Global,
-    units: &[EbUnit],
-    places: &Groups<'_>,
-    name: &str,
-) -> Result<Vec<bool>, AllocError>
-    requires { IsIndex units.now places.now }
-    ensures { IfOk result (λ marks. AreExtendedMarked units.now name.now marks.items) }
+/// A walk from the contexts of this name. The only error is want of memory.
+pub fn walk_from<'a>(alloc: Global, name: &'a str) -> Result<Walk<'a>, AllocError>
+    ensures { IfOk result (λ walk. (us : List EbUnit) → IsWalk us (name.now ∷ []) walk) }
 {
-    let mut walk = Walk {
-        marks: same_marks(alloc, units, false)?,
-        queue: Vec::new(alloc),
-    };
-    reach_name(places, &mut walk, name)?;
-    spread(places, &mut walk, units)?;
-    Ok(walk.marks)
+    let mut walk = empty_walk(alloc);
+    reach(&mut walk, name)?;
+    Ok(walk)
+}
+
+/// Whether the contexts of the name from which the walk comes reach this one by `extends` in none, one or more steps, in a text
+/// whose contexts have these places. It goes on with the walk as far as needed: all answers about one walk cost as much together
+/// as one way over what its first name reaches. The only error is want of memory.
+pub fn walk_reaches<'a>(
+    places: &Groups<'_>,
+    walk: &mut Walk<'a>,
+    units: &'a [EbUnit],
+    name: &str,
+) -> Result<bool, AllocError>
+    requires { IsIndex units.now places.now }
+    ensures walk { OnOk result ((first : List (List ℕ)) → IsWalk units.now first walk.old → IsWalk units.now first walk.new) }
+    ensures answer { IfOk result (λ found. (from : List ℕ) → IsWalk units.now (from ∷ []) walk.old → (IsTrue found ↔ spec.Extends units.now from name.now)) }
+{
+    search(places, walk, units, Some(name))
+}
+
+/// Whether the unit extends the name.
+fn unit_extends(unit: &EbUnit, name: &str) -> bool
+    ensures { result ≡ is_listed (extends_of unit.now) name.now }
+{
+    match unit {
+        EbUnit::Context(context) => is_among(context.extends.as_slice(), name),
+        EbUnit::Machine(_) | EbUnit::Scope(_) | EbUnit::Queries(_) => is_among(&[], name),
+    }
+}
+
+/// Whether the first context of the one name extends the other.
+fn context_extends(groups: &Groups<'_>, units: &[EbUnit], name: &str, extended: &str) -> bool
+    requires { IsIndex units.now groups.now }
+    ensures { result ≡ true → IsExtendedBy units.now name.now extended.now }
+{
+    match groups.get(name) {
+        Some(places) => match places.first() {
+            Some(place) => unit_extends(unit_at(units, *place), extended),
+            None => false,
+        },
+        None => false,
+    }
+}
+
+/// Whether the walk from the contexts of the one name is a walk from those of the other now. It is where the names are the same, or
+/// the first context of the other one extends the first one. So one walk serves a chain of contexts, in the order in which they
+/// stand. The only error is want of memory.
+pub fn lead_walk<'a>(
+    places: &Groups<'_>,
+    walk: &mut Walk<'a>,
+    units: &'a [EbUnit],
+    from: &str,
+    name: &'a str,
+) -> Result<bool, AllocError>
+    requires { IsIndex units.now places.now }
+    ensures { IfOk result (λ led. led ≡ true → IsWalk units.now (from.now ∷ []) walk.old → IsWalk units.now (name.now ∷ []) walk.new) }
+{
+    if from == name {
+        return Ok(true);
+    }
+    if !context_extends(places, units, name, from) {
+        return Ok(false);
+    }
+    reach(walk, name)?;
+    Ok(true)
 }

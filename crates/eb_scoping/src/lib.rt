@@ -3,8 +3,10 @@
 
 mod contexts;
 mod models;
+mod sets;
 mod uses;
 
-pub use contexts::{Groups, context_places, extended_contexts, grouped};
-pub use models::{marks_are_determined, model_units};
-pub use uses::{Use, built_names, free_uses};
+pub use contexts::{Groups, Walk, context_places, grouped, lead_walk, walk_from, walk_reaches};
+pub use models::{machine, marks_are_determined, model_units};
+pub use sets::{NameSet, has_name, insert_name};
+pub use uses::{Use, built_names, free_uses, is_among, names, pattern_names};

@@ -1,11 +1,11 @@
 //! The units of a text that its model has.
-ghost use Rattle.std.specs.Prelude.{◌≡◌, [], ◌∷◌, IfOk, List, Bool, is_some, option_map};
-ghost use Rattle.eb_term.specs.declared.units.EbUnit.{EbUnit};
+ghost use Rattle.std.specs.Prelude.{◌≡◌, [], ◌∷◌, IfOk, List, Bool, true, length, replicate, is_some, option_map};
+ghost use Rattle.eb_syntax.specs.declared.units.EbUnit.{EbUnit};
 ghost use Rattle.eb_scoping.specs.Models as spec;
-ghost use Rattle.eb_scoping.specs.Walks.{AreContextsMarked, mark_of};
+ghost use Rattle.eb_scoping.specs.steps.Marks.{AreContextsMarked, mark_of};
 
-use super::contexts::{reached, same_marks, unit_at};
-use eb_term::{EbUnit, Machine};
+use super::contexts::{reached, unit_at};
+use eb_syntax::{EbUnit, Machine};
 use sqlite_items::Items;
 use std::alloc::{AllocError, Global};
 
@@ -24,16 +24,24 @@ fn contexts(alloc: Global, units: &[EbUnit]) -> Result<Vec<bool>, AllocError>
     ensures { IfOk result (λ marks. AreContextsMarked units.now marks.items) }
 {
     match machine(units) {
-        None => {
-            let marks = same_marks(alloc, units, true)?;
-            Ok(marks)
-        }
+        None => true_marks(alloc, units),
         Some(machine) => reached(alloc, units, machine),
     }
 }
 
+/// A true mark for each unit.
+fn true_marks(alloc: Global, units: &[EbUnit]) -> Result<Vec<bool>, AllocError>
+    ensures { IfOk result (λ marks. marks.items ≡ replicate (length units.now) true) }
+{
+    let mut marks = Vec::new(alloc);
+    for _unit in units {
+        marks.push(true)?;
+    }
+    Ok(marks)
+}
+
 /// The machine of the text, which is its first one.
-fn machine(units: &[EbUnit]) -> Option<&Machine>
+pub fn machine(units: &[EbUnit]) -> Option<&Machine>
     ensures { option_map (λ m. m.now) result ≡ spec.machine_of units.now }
 {
     for unit in units {

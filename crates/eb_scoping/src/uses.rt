@@ -1,11 +1,14 @@
 //! The free names of a formula.
-ghost use Rattle.std.specs.Prelude.{[], ◌∷◌, ◌≡◌, ◌++◌, OnOk, IfOk, map, if◌then◌else◌};
+ghost use Rattle.std.specs.Prelude.{[], ◌∷◌, ◌≡◌, ◌++◌, ◌||◌, ℕ, List, OnOk, IfOk, map, not, if◌then◌else◌};
 ghost use Rattle.std.specs.List.{flat_map};
 ghost use Rattle.eb_scoping.specs.FreeNames as spec;
+ghost use Rattle.eb_scoping.specs.Sets.{has_text};
 
-use eb_term::{Ast, Bound, Identifier, Mark, Node};
-use eb_value::{Name, Names};
+use super::sets::{NameSet, has_name, insert_name, name_set};
+use eb_names::{Name, Names};
+use eb_syntax::{Ast, Bound, Identifier, Mark, Node};
 use std::alloc::{AllocError, Global};
+use std::collections::BTreeSet;
 
 /// A name where a formula uses it, and whether with a `'`, which the name leaves out.
 #[derive(Clone, Copy)]
@@ -14,20 +17,20 @@ pub struct Use<'a> {
     pub is_primed: bool,
 }
 
-/// Whether one of the names is this one.
-fn is_among(names: &[&Name], name: &Name) -> bool
-    ensures { result ≡ spec.is_among (map (λ x. x.now) names.now) name.now }
+/// Whether one of these identifiers has the name.
+pub fn is_among(identifiers: &[Identifier], name: &str) -> bool
+    ensures { result ≡ spec.is_among (spec.names_of identifiers.now) name.now }
 {
-    for other in names {
-        if other.as_str() == name.as_str() {
+    for other in identifiers {
+        if other.name.as_str() == name {
             return true;
         }
     }
     false
 }
 
-/// The names of these identifiers.
-fn names<'a>(alloc: Global, identifiers: &'a [Identifier]) -> Result<Vec<&'a Name>, AllocError>
+/// The names of these identifiers. The only error is want of memory.
+pub fn names<'a>(alloc: Global, identifiers: &'a [Identifier]) -> Result<Vec<&'a Name>, AllocError>
     ensures { IfOk result (λ names. map (λ x. x.now) names.items ≡ spec.names_of identifiers.now) }
 {
     let mut names = Vec::new(alloc);
@@ -46,7 +49,8 @@ fn push_mark<'a>(mark: &'a Mark, names: &mut Vec<&'a Name>) -> Result<(), AllocE
     Ok(())
 }
 
-fn pattern_names<'a>(alloc: Global, pattern: &'a [Mark]) -> Result<Vec<&'a Name>, AllocError>
+/// The names of a pattern's identifiers. The only error is want of memory.
+pub fn pattern_names<'a>(alloc: Global, pattern: &'a [Mark]) -> Result<Vec<&'a Name>, AllocError>
     ensures { IfOk result (λ names. map (λ x. x.now) names.items ≡ flat_map spec.mark_names pattern.now) }
 {
     let mut names = Vec::new(alloc);
@@ -79,16 +83,25 @@ fn plain_names<'a>(alloc: Global, uses: &[Use<'a>]) -> Result<Vec<&'a Name>, All
     Ok(names)
 }
 
+/// Whether the use is one that the names of the set don't bind.
+fn is_unbound(names: &NameSet<'_>, used: Use<'_>) -> bool
+    ensures { result ≡ (used.entry.is_primed || not (has_text names.now used.entry.name.now)) }
+{
+    used.is_primed || !has_name(names, used.name.as_str())
+}
+
 /// Writes the uses that these names don't bind to the end.
 fn push_unbound<'a>(
+    alloc: Global,
     names: &[&Name],
     uses: &[Use<'a>],
     out: &mut Vec<Use<'a>>,
 ) -> Result<(), AllocError>
     ensures { OnOk result (map spec.seen out.new.items ≡ map spec.seen out.old.items ++ spec.unbound (map (λ x. x.now) names.now) (map spec.seen uses.now)) }
 {
+    let set = name_set(alloc, names)?;
     for used in uses {
-        if used.is_primed || !is_among(names, used.name) {
+        if is_unbound(&set, *used) {
             out.push(*used)?;
         }
     }
@@ -123,28 +136,28 @@ fn push_free<'a>(alloc: Global, ast: &'a Ast, out: &mut Vec<Use<'a>>) -> Result<
             let names = names(alloc, bound.as_slice())?;
             let mut inner = Vec::new(alloc);
             push_free(alloc, part.get(), &mut inner)?;
-            push_unbound(&names, &inner, out)
+            push_unbound(alloc, &names, &inner, out)
         }
         Node::Binder(_, bound, condition, value) => {
             let names = bound_names(alloc, bound)?;
             let mut inner = Vec::new(alloc);
             push_free(alloc, condition.get(), &mut inner)?;
             push_free(alloc, value.get(), &mut inner)?;
-            push_unbound(&names, &inner, out)
+            push_unbound(alloc, &names, &inner, out)
         }
         Node::Comprehension(bound, condition, value) => {
             let names = names(alloc, bound.as_slice())?;
             let mut inner = Vec::new(alloc);
             push_free(alloc, condition.get(), &mut inner)?;
             push_free(alloc, value.get(), &mut inner)?;
-            push_unbound(&names, &inner, out)
+            push_unbound(alloc, &names, &inner, out)
         }
         Node::Builder(value, condition) => {
             let mut inner = Vec::new(alloc);
             push_free(alloc, value.get(), &mut inner)?;
             let names = plain_names(alloc, &inner)?;
             push_free(alloc, condition.get(), &mut inner)?;
-            push_unbound(&names, &inner, out)
+            push_unbound(alloc, &names, &inner, out)
         }
         Node::Extension(members) => push_row(alloc, members.as_slice(), out),
         Node::Partition(members) => push_row(alloc, members.as_slice(), out),
@@ -170,17 +183,6 @@ pub fn free_uses<'a>(alloc: Global, ast: &'a Ast) -> Result<Vec<Use<'a>>, AllocE
     Ok(uses)
 }
 
-fn is_listed(names: &[Name], name: &Name) -> bool
-    ensures { result ≡ spec.is_among names.now name.now }
-{
-    for other in names {
-        if other.as_str() == name.as_str() {
-            return true;
-        }
-    }
-    false
-}
-
 /// The identifiers that `{e|P}` binds, whatever P is: the free names of `e` without a `'`, each once, in the order of their
 /// first uses. The only error is want of memory.
 pub fn built_names(alloc: Global, e: &Ast) -> Result<Names, AllocError>
@@ -191,13 +193,22 @@ pub fn built_names(alloc: Global, e: &Ast) -> Result<Names, AllocError>
     firsts(alloc, &plain)
 }
 
-/// Writes the name to the end where it is not there.
-fn push_first(alloc: Global, name: &Name, names: &mut Names) -> Result<(), AllocError>
-    ensures { OnOk result (names.new ≡ (if spec.is_among names.old name.now then names.old else names.old ++ name.now ∷ [])) }
+/// Writes the name to the end where it is not there. The set has the names that are there.
+fn push_first<'a>(
+    alloc: Global,
+    name: &'a Name,
+    there: &mut NameSet<'a>,
+    names: &mut Names,
+) -> Result<(), AllocError>
+    requires { (q : List ℕ) → has_text there.old q ≡ spec.is_among names.old q }
+    ensures there { OnOk result ((q : List ℕ) → has_text there.new q ≡ spec.is_among names.new q) }
+    ensures names { OnOk result (names.new ≡ (if spec.is_among names.old name.now then names.old else names.old ++ name.now ∷ [])) }
 {
-    if !is_listed(names.as_slice(), name) {
-        names.push(name.copied(alloc)?)?;
+    if has_name(there, name.as_str()) {
+        return Ok(());
     }
+    insert_name(there, name.as_str())?;
+    names.push(name.copied(alloc)?)?;
     Ok(())
 }
 
@@ -206,8 +217,9 @@ fn firsts(alloc: Global, plain: &[&Name]) -> Result<Names, AllocError>
     ensures { IfOk result (λ names. names ≡ spec.firsts (map (λ x. x.now) plain.now)) }
 {
     let mut names = Names::new(alloc);
+    let mut there = BTreeSet::new(alloc);
     for name in plain {
-        push_first(alloc, name, &mut names)?;
+        push_first(alloc, *name, &mut there, &mut names)?;
     }
     Ok(names)
 }

@@ -1,2 +1,1 @@
-pub mod Asts
 pub mod Terms

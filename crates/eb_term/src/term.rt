@@ -102,31 +102,6 @@ impl Term {
             head: Head::Binary(operator, left, right),
         })
     }
-
-    /// An equal term. The only error is want of memory.
-    pub fn copied(&self, alloc: Global) -> Result<Term, AllocError>
-        ensures { IfOk result (λ copy. copy ≡ self.now) }
-    {
-        let head = match &self.head {
-            Head::Truth(truth) => Head::Truth(*truth),
-            Head::Literal(value, ty) => Head::Literal(value.copied(alloc)?, ty.copied(alloc)?),
-            Head::Reference(place, ty) => Head::Reference(*place, ty.copied(alloc)?),
-            Head::Unary(operator, part) => {
-                let part = part.get().copied(alloc)?;
-                Head::Unary(*operator, Boxed::new(alloc, part)?)
-            }
-            Head::Binary(operator, left, right) => {
-                let left = left.get().copied(alloc)?;
-                let right = right.get().copied(alloc)?;
-                Head::Binary(
-                    *operator,
-                    Boxed::new(alloc, left)?,
-                    Boxed::new(alloc, right)?,
-                )
-            }
-        };
-        Ok(Term { head })
-    }
 }
 
 fn integer_type() -> EbType

@@ -8,29 +8,30 @@ use Rattle.eb_lexer.specs.declared.token.Sign.TheVariants as s
 use Rattle.eb_lexer.specs.declared.token.Token.{Token}
 use Rattle.eb_lexer.specs.declared.token.TokenKind.{TokenKind}
 use Rattle.eb_lexer.specs.declared.token.TokenKind.TheVariants as kind
-use Rattle.eb_term.specs.declared.ast.Ast.{Ast}
-use Rattle.eb_term.specs.declared.ast.Identifier.{Identifier}
-use Rattle.eb_term.specs.declared.query.Goal.{Goal}
-use Rattle.eb_term.specs.declared.query.Query.{Query}
-use Rattle.eb_term.specs.declared.units.Label.{Label}
-use Rattle.eb_term.specs.declared.units.ContextClause.{ContextClause}
-use Rattle.eb_term.specs.declared.units.NamesClause.{NamesClause}
-use Rattle.eb_term.specs.declared.units.PredicatesClause.{PredicatesClause}
-use Rattle.eb_term.specs.declared.units.Convergence.{Convergence}
-use Rattle.eb_term.specs.declared.units.Inheritance.{Inheritance}
-use Rattle.eb_term.specs.declared.units.Action.{Action}
-use Rattle.eb_term.specs.declared.units.Event.{Event}
-use Rattle.eb_term.specs.declared.units.MachineClause.{MachineClause}
-use Rattle.eb_term.specs.declared.units.Refinement.{Refinement}
-use Rattle.eb_term.specs.declared.units.ScopeBlock.{ScopeBlock}
+use Rattle.eb_syntax.specs.declared.ast.Ast.{Ast}
+use Rattle.eb_syntax.specs.declared.ast.Identifier.{Identifier}
+use Rattle.eb_syntax.specs.declared.query.Goal.{Goal}
+use Rattle.eb_syntax.specs.declared.query.Query.{Query}
+use Rattle.eb_syntax.specs.declared.units.Label.{Label}
+use Rattle.eb_syntax.specs.declared.units.ContextClause.{ContextClause}
+use Rattle.eb_syntax.specs.declared.units.NamesClause.{NamesClause}
+use Rattle.eb_syntax.specs.declared.units.PredicatesClause.{PredicatesClause}
+use Rattle.eb_syntax.specs.declared.units.Convergence.{Convergence}
+use Rattle.eb_syntax.specs.declared.units.Inheritance.{Inheritance}
+use Rattle.eb_syntax.specs.declared.units.Action.{Action}
+use Rattle.eb_syntax.specs.declared.units.Event.{Event}
+use Rattle.eb_syntax.specs.declared.units.MachineClause.{MachineClause}
+use Rattle.eb_syntax.specs.declared.units.Refinement.{Refinement}
+use Rattle.eb_syntax.specs.declared.units.ScopeBlock.{ScopeBlock}
 use Rattle.eb_parser.specs.declared.formulas.FormulaKind.TheVariants as formula
-use Rattle.eb_term.specs.declared.ast.Operator.{Operator}
-use Rattle.eb_term.specs.declared.ast.Operator.TheVariants as op
+use Rattle.eb_syntax.specs.declared.ast.Operator.{Operator}
+use Rattle.eb_syntax.specs.declared.ast.Operator.TheVariants as op
 use Rattle.eb_parser.specs.Signs.{operator_sign}
 use Rattle.eb_parser.specs.Formulas.{is_unit_word, Continues}
-use Rattle.eb_parser.specs.Fronts.{FrontLaws}
+use Rattle.eb_parser.specs.steps.Finding.{FrontLaws}
 use Rattle.eb_units.specs.Grammar.{Next, Each, NextName, Names, NamesBehind, Labelled, NextExpr, Exprs, Assigns, Acts, ContextPart, IsContext, Converges, NamesPart, PredicatesPart, Inherits, Parameters, Guards, Witnesses, Does, IsEvent, Variant, MachinePart, Refines, IsMachine, Bounds, Sets, IsScope, NextEvent, Sequence, IsGoal, IsQuery, IsQueries, IsUnit, present, absent, none, more, next_name, names, names_behind, no_names, labelled, next_expr, exprs, becomes_equal, becomes_equal_at, becomes_member, becomes_such, acts, sets, constants, axioms, context, ordinary, convergent, anticipated, unsaid, names_part, predicates_part, refines, extends, inherits_nothing, any, no_parameters, where_part, when_part, no_guards, with_part, no_witnesses, then_part, begin_part, does_nothing, event, labelled_variant, bare_variant, variables, invariants, variant, events, refined, unrefined, machine, positive, negative, integers, size, depth, scope, next_event, empty, sequence, take_event, false_guard, ask_axioms, ask_enabled, ask_invariant, ask_deadlock, ask_sequence, ask_wd, ask_theorem, ask_goal, block, unit_context, unit_machine, unit_scope, unit_queries}
-use Rattle.eb_units.specs.Reading.{heads, same_sign, is_kind, is_name, is_label, at_sign, at_name, at_label, goes_on, opens_labelled}
+use Rattle.eb_units.specs.steps.Descending.{heads, is_name, is_label, at_sign, at_name, at_label, goes_on, opens_labelled}
+use Rattle.eb_lexer.specs.Signs.{same_sign, is_kind}
 use Rattle.eb_units.proofs.Heads.{by_flag, next_heads, next_sign, named_sign, next_less, keyword_less, named_less, labels_less, numbered_less, perhaps_less, marked_less}
 
 -- a label, a word of units, `,` or `)`: no formula goes on with it

@@ -10,12 +10,13 @@ use Rattle.eb_lexer.specs.declared.token.Sign.TheVariants as s
 use Rattle.eb_lexer.specs.declared.token.Token.{Token}
 use Rattle.eb_lexer.specs.declared.token.TokenKind.{TokenKind}
 use Rattle.eb_lexer.specs.declared.token.TokenKind.TheVariants as kind
-use Rattle.eb_term.specs.declared.ast.Identifier.{Identifier}
-use Rattle.eb_term.specs.declared.units.Label.{Label}
+use Rattle.eb_syntax.specs.declared.ast.Identifier.{Identifier}
+use Rattle.eb_syntax.specs.declared.units.Label.{Label}
 use Rattle.eb_parser.specs.declared.fault.Fault.{Fault}
 use Rattle.eb_parser.specs.declared.fault.Fault.TheVariants.{Syntax}
 use Rattle.eb_units.specs.Grammar.{Next, next, Perhaps, present, absent, Keyword, keyword, Named, named, Labels, labels, Numbered, numbered, Marked, marked, unmarked}
-use Rattle.eb_units.specs.Reading.{◌>>=◌, heads, after_first, same_sign, is_kind, is_word, is_name, is_label, at_sign, at_word, at_name, at_label, place_at, sign_at, word_at, skip, name_of, name_at, label_of, label_at, number_of, number_at}
+use Rattle.eb_units.specs.steps.Descending.{◌>>=◌, heads, after_first, is_word, is_name, is_label, at_sign, at_word, at_name, at_label, place_at, sign_at, word_at, skip, name_of, name_at, label_of, label_at, number_of, number_at}
+use Rattle.eb_lexer.specs.Signs.{same_sign, is_kind}
 
 -- ---- steps that may fail
 

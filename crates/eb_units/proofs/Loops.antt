@@ -7,8 +7,8 @@ use Rattle.eb_parser.specs.declared.fault.Fault.{Fault}
 use Rattle.eb_parser.specs.declared.fault.Fault.TheVariants.{Syntax, TooDeep}
 use Rattle.eb_parser.specs.declared.fault.ParseFault.{ParseFault}
 use Rattle.eb_parser.specs.declared.fault.ParseFault.TheVariants as fault
-use Rattle.eb_parser.specs.Fronts.{Finds}
-use Rattle.eb_units.specs.Reading.{◌>>=◌, Read, many, with_front}
+use Rattle.eb_parser.specs.steps.Finding.{Finds}
+use Rattle.eb_units.specs.steps.Descending.{◌>>=◌, Read, many, with_front}
 
 abbrev pub Opens : Type 0
 Opens = List Token → Bool

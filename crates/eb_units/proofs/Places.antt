@@ -1,7 +1,7 @@
 -- Places of tokens.
 use Rattle.std.proofs.Common.{◌≡◌, ◌∙◌, ℕ, zero, suc, ◌+◌, List, [], ◌∷◌, drop, refl, ap, arith}
 use Rattle.eb_lexer.specs.declared.token.Token.{Token}
-use Rattle.eb_units.specs.Reading.{after_first}
+use Rattle.eb_units.specs.steps.Descending.{after_first}
 
 drop_suc : (ts : List Token) (i : ℕ) → drop (suc i) ts ≡ after_first (drop i ts)
 drop_suc [] zero = refl

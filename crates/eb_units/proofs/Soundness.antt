@@ -5,41 +5,42 @@ use Rattle.std.proofs.lemmas.Bool.Decides.{nat_tests}
 use Rattle.eb_lexer.specs.declared.token.Sign.{Sign}
 use Rattle.eb_lexer.specs.declared.token.Sign.TheVariants as s
 use Rattle.eb_lexer.specs.declared.token.Token.{Token}
-use Rattle.eb_term.specs.declared.ast.Ast.{Ast}
-use Rattle.eb_term.specs.declared.ast.Identifier.{Identifier}
-use Rattle.eb_term.specs.declared.query.Goal.{Goal}
-use Rattle.eb_term.specs.declared.query.Goal.TheVariants as goals
-use Rattle.eb_term.specs.declared.query.Query.{Query}
-use Rattle.eb_term.specs.declared.query.Query.TheVariants as queries
-use Rattle.eb_term.specs.declared.units.Label.{Label}
-use Rattle.eb_term.specs.declared.units.LabelledPredicate.{LabelledPredicate}
-use Rattle.eb_term.specs.declared.units.ContextClause.{ContextClause}
-use Rattle.eb_term.specs.declared.units.ContextClause.TheVariants as parts
-use Rattle.eb_term.specs.declared.units.Context.{Context}
-use Rattle.eb_term.specs.declared.units.NamesClause.{NamesClause}
-use Rattle.eb_term.specs.declared.units.PredicatesClause.{PredicatesClause}
-use Rattle.eb_term.specs.declared.units.Convergence.{Convergence}
-use Rattle.eb_term.specs.declared.units.Convergence.TheVariants as convergence
-use Rattle.eb_term.specs.declared.units.Inheritance.{Inheritance}
-use Rattle.eb_term.specs.declared.units.Inheritance.TheVariants as inherits
-use Rattle.eb_term.specs.declared.units.Assignment.{Assignment}
-use Rattle.eb_term.specs.declared.units.Assignment.TheVariants as becomes
-use Rattle.eb_term.specs.declared.units.Action.{Action}
-use Rattle.eb_term.specs.declared.units.Event.{Event}
-use Rattle.eb_term.specs.declared.units.MachineClause.{MachineClause}
-use Rattle.eb_term.specs.declared.units.MachineClause.TheVariants as clauses
-use Rattle.eb_term.specs.declared.units.Refinement.{Refinement}
-use Rattle.eb_term.specs.declared.units.Machine.{Machine}
-use Rattle.eb_term.specs.declared.units.ScopeSetting.{ScopeSetting}
-use Rattle.eb_term.specs.declared.units.ScopeSetting.TheVariants as settings
-use Rattle.eb_term.specs.declared.units.ScopeBlock.{ScopeBlock}
-use Rattle.eb_term.specs.declared.units.EbUnit.{EbUnit}
-use Rattle.eb_term.specs.declared.units.EbUnit.TheVariants as unit
+use Rattle.eb_syntax.specs.declared.ast.Ast.{Ast}
+use Rattle.eb_syntax.specs.declared.ast.Identifier.{Identifier}
+use Rattle.eb_syntax.specs.declared.query.Goal.{Goal}
+use Rattle.eb_syntax.specs.declared.query.Goal.TheVariants as goals
+use Rattle.eb_syntax.specs.declared.query.Query.{Query}
+use Rattle.eb_syntax.specs.declared.query.Query.TheVariants as queries
+use Rattle.eb_syntax.specs.declared.units.Label.{Label}
+use Rattle.eb_syntax.specs.declared.units.LabelledPredicate.{LabelledPredicate}
+use Rattle.eb_syntax.specs.declared.units.ContextClause.{ContextClause}
+use Rattle.eb_syntax.specs.declared.units.ContextClause.TheVariants as parts
+use Rattle.eb_syntax.specs.declared.units.Context.{Context}
+use Rattle.eb_syntax.specs.declared.units.NamesClause.{NamesClause}
+use Rattle.eb_syntax.specs.declared.units.PredicatesClause.{PredicatesClause}
+use Rattle.eb_syntax.specs.declared.units.Convergence.{Convergence}
+use Rattle.eb_syntax.specs.declared.units.Convergence.TheVariants as convergence
+use Rattle.eb_syntax.specs.declared.units.Inheritance.{Inheritance}
+use Rattle.eb_syntax.specs.declared.units.Inheritance.TheVariants as inherits
+use Rattle.eb_syntax.specs.declared.units.Assignment.{Assignment}
+use Rattle.eb_syntax.specs.declared.units.Assignment.TheVariants as becomes
+use Rattle.eb_syntax.specs.declared.units.Action.{Action}
+use Rattle.eb_syntax.specs.declared.units.Event.{Event}
+use Rattle.eb_syntax.specs.declared.units.MachineClause.{MachineClause}
+use Rattle.eb_syntax.specs.declared.units.MachineClause.TheVariants as clauses
+use Rattle.eb_syntax.specs.declared.units.Refinement.{Refinement}
+use Rattle.eb_syntax.specs.declared.units.Machine.{Machine}
+use Rattle.eb_syntax.specs.declared.units.ScopeSetting.{ScopeSetting}
+use Rattle.eb_syntax.specs.declared.units.ScopeSetting.TheVariants as settings
+use Rattle.eb_syntax.specs.declared.units.ScopeBlock.{ScopeBlock}
+use Rattle.eb_syntax.specs.declared.units.EbUnit.{EbUnit}
+use Rattle.eb_syntax.specs.declared.units.EbUnit.TheVariants as unit
 use Rattle.eb_parser.specs.declared.formulas.FormulaKind.TheVariants as formula
 use Rattle.eb_parser.specs.declared.formulas.FormulaKind.{FormulaKind}
-use Rattle.eb_parser.specs.Fronts.{Front, formula_at, FrontLaws}
+use Rattle.eb_parser.specs.Fronts.{Front}
+use Rattle.eb_parser.specs.steps.Finding.{formula_at, FrontLaws}
 use Rattle.eb_units.specs.Grammar.{Next, Named, Labels, Each, NextName, Names, NamesBehind, Labelled, NextExpr, Exprs, Assigns, Acts, ContextPart, IsContext, Converges, NamesPart, PredicatesPart, Inherits, Parameters, Guards, Witnesses, Does, IsEvent, MachinePart, Refines, IsMachine, Bounds, Sets, IsScope, NextEvent, Sequence, IsGoal, IsQuery, IsQueries, IsUnit, none, more, next_name, names, names_behind, no_names, labelled, next_expr, exprs, becomes_equal, becomes_equal_at, becomes_member, becomes_such, acts, sets, constants, axioms, context, ordinary, convergent, anticipated, unsaid, names_part, predicates_part, refines, extends, inherits_nothing, any, no_parameters, where_part, when_part, no_guards, with_part, no_witnesses, then_part, begin_part, does_nothing, event, labelled_variant, bare_variant, variables, invariants, variant, events, refined, unrefined, machine, positive, negative, integers, size, depth, scope, next_event, empty, sequence, take_event, false_guard, ask_axioms, ask_enabled, ask_invariant, ask_deadlock, ask_sequence, ask_wd, ask_theorem, ask_goal, block, unit_context, unit_machine, unit_scope, unit_queries}
-use Rattle.eb_units.specs.Reading.{◌>>=◌, Read, after_first, at_sign, at_word, at_name, at_label, place_at, sign_at, word_at, skip, name_at, label_at, number_at, many, with_front, next_name_at, goes_on, more_names, names_at, names_behind_at, labelled_at, opens_labelled, all_labelled, next_expr_at, more_exprs, exprs_at, as_many, equal_at, such_at, assigned_at, applied_at, member_at, several_at, assigns_at, assignment_at, action_at, all_actions, sets_at, constants_at, axioms_at, context_part_at, opens_context_part, all_context_parts, context_at, convergence_at, behind_convergence, names_part_at, predicates_part_at, refines_at, extends_at, inherits_at, parameters_at, part_behind_at, guards_at, does_at, event_head_at, event_body_at, event_at, opens_event, all_events, variables_at, invariants_at, labelled_variant_at, variant_at, events_at, machine_part_at, opens_machine_part, all_machine_parts, refinement_at, machine_at, bound_at, integers_at, size_at, depth_at, setting_at, all_settings, scope_at, event_name_at, next_event_at, more_events, some_events_at, sequence_at, take_at, false_at, goal_at, target_at, ask_enabled_at, ask_invariant_at, ask_sequence_at, ask_wd_at, ask_theorem_at, ask_goal_at, name_query_at, word_query_at, query_at, opens_query, all_queries, queries_at, scope_or_queries_at, unit_at, is_token, text_at}
+use Rattle.eb_units.specs.steps.Descending.{◌>>=◌, Read, after_first, at_sign, at_word, at_name, at_label, place_at, sign_at, word_at, skip, name_at, label_at, number_at, many, with_front, next_name_at, goes_on, more_names, names_at, names_behind_at, labelled_at, opens_labelled, all_labelled, next_expr_at, more_exprs, exprs_at, as_many, equal_at, such_at, assigned_at, applied_at, member_at, several_at, assigns_at, assignment_at, action_at, all_actions, sets_at, constants_at, axioms_at, context_part_at, opens_context_part, all_context_parts, context_at, convergence_at, behind_convergence, names_part_at, predicates_part_at, refines_at, extends_at, inherits_at, parameters_at, part_behind_at, guards_at, does_at, event_head_at, event_body_at, event_at, opens_event, all_events, variables_at, invariants_at, labelled_variant_at, variant_at, events_at, machine_part_at, opens_machine_part, all_machine_parts, refinement_at, machine_at, bound_at, integers_at, size_at, depth_at, setting_at, all_settings, scope_at, event_name_at, next_event_at, more_events, some_events_at, sequence_at, take_at, false_at, goal_at, target_at, ask_enabled_at, ask_invariant_at, ask_sequence_at, ask_wd_at, ask_theorem_at, ask_goal_at, name_query_at, word_query_at, query_at, opens_query, all_queries, queries_at, scope_or_queries_at, unit_at, is_token, text_at}
 use Rattle.eb_units.proofs.Heads.{ok, ok_inj, bind_ok, branch, guard_ok, sign_sound, word_sound, sign_at_sound, word_at_sound, skip_sound, marked_sound, name_sound, label_sound, number_sound}
 
 -- a limit of heights, and the laws of formulas

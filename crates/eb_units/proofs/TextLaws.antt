@@ -3,15 +3,15 @@ use Rattle.std.proofs.Common.{◌≡◌, ◌∙◌, ◌<◌, ◌≤◌, ◌⊎�
 use Rattle.std.specs.Prelude.{Ok, Err}
 use Rattle.std.proofs.lemmas.Bool.{cases_lt}
 use Rattle.eb_lexer.specs.declared.token.Token.{Token}
-use Rattle.eb_term.specs.declared.units.EbUnit.{EbUnit}
+use Rattle.eb_syntax.specs.declared.units.EbUnit.{EbUnit}
 use Rattle.eb_parser.specs.declared.fault.Fault.{Fault}
 use Rattle.eb_parser.specs.declared.fault.Fault.TheVariants.{Syntax, TooDeep}
 use Rattle.eb_parser.specs.declared.fault.ParseFault.{ParseFault}
 use Rattle.eb_parser.specs.declared.fault.ParseFault.TheVariants as fault
-use Rattle.eb_parser.specs.Fronts.{FrontLaws, Finds}
+use Rattle.eb_parser.specs.steps.Finding.{FrontLaws, Finds}
 use Rattle.eb_units.specs.Grammar.{Reads, Each, IsUnit}
 use Rattle.eb_units.specs.Faults.{IsFaultOf}
-use Rattle.eb_units.specs.Reading.{Read, IsPlaced, room, text_at, unit_at, is_token}
+use Rattle.eb_units.specs.steps.Descending.{Read, IsPlaced, room, text_at, unit_at, is_token}
 use Rattle.eb_units.proofs.Soundness.{Limit, text_sound, many_ends}
 use Rattle.eb_units.proofs.Completeness.{Outcome, reads, sinks}
 use Rattle.eb_units.proofs.UnitsRead.{text_read}

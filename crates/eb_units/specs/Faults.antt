@@ -1,7 +1,7 @@
 -- The causes of faults.
 use Rattle.std.specs.Prelude.{◌≡◌, ◌<◌, ℕ, List, length, drop, ⊤}
 use Rattle.eb_lexer.specs.declared.token.Token.{Token}
-use Rattle.eb_term.specs.declared.units.EbUnit.{EbUnit}
+use Rattle.eb_syntax.specs.declared.units.EbUnit.{EbUnit}
 use Rattle.eb_parser.specs.declared.fault.ParseFault.{ParseFault}
 use Rattle.eb_parser.specs.declared.fault.ParseFault.TheVariants as fault
 use Rattle.eb_parser.specs.Formulas.{stretch, place_of}

@@ -22,36 +22,36 @@ use Rattle.eb_lexer.specs.declared.token.Sign.{Sign}
 use Rattle.eb_lexer.specs.declared.token.Sign.TheVariants as s
 use Rattle.eb_lexer.specs.declared.token.Token.{Token}
 use Rattle.eb_lexer.specs.declared.token.TokenKind.TheVariants as kind
-use Rattle.eb_term.specs.declared.ast.Ast.{Ast}
-use Rattle.eb_term.specs.declared.ast.Identifier.{Identifier}
-use Rattle.eb_term.specs.declared.query.Goal.{Goal}
-use Rattle.eb_term.specs.declared.query.Goal.TheVariants as goals
-use Rattle.eb_term.specs.declared.query.Query.{Query}
-use Rattle.eb_term.specs.declared.query.Query.TheVariants as queries
-use Rattle.eb_term.specs.declared.units.Label.{Label}
-use Rattle.eb_term.specs.declared.units.LabelledPredicate.{LabelledPredicate}
-use Rattle.eb_term.specs.declared.units.ContextClause.{ContextClause}
-use Rattle.eb_term.specs.declared.units.ContextClause.TheVariants as parts
-use Rattle.eb_term.specs.declared.units.Context.{Context}
-use Rattle.eb_term.specs.declared.units.NamesClause.{NamesClause}
-use Rattle.eb_term.specs.declared.units.PredicatesClause.{PredicatesClause}
-use Rattle.eb_term.specs.declared.units.Convergence.{Convergence}
-use Rattle.eb_term.specs.declared.units.Convergence.TheVariants as convergence
-use Rattle.eb_term.specs.declared.units.Inheritance.{Inheritance}
-use Rattle.eb_term.specs.declared.units.Inheritance.TheVariants as inherits
-use Rattle.eb_term.specs.declared.units.Assignment.{Assignment}
-use Rattle.eb_term.specs.declared.units.Assignment.TheVariants as becomes
-use Rattle.eb_term.specs.declared.units.Action.{Action}
-use Rattle.eb_term.specs.declared.units.Event.{Event}
-use Rattle.eb_term.specs.declared.units.MachineClause.{MachineClause}
-use Rattle.eb_term.specs.declared.units.MachineClause.TheVariants as clauses
-use Rattle.eb_term.specs.declared.units.Refinement.{Refinement}
-use Rattle.eb_term.specs.declared.units.Machine.{Machine}
-use Rattle.eb_term.specs.declared.units.ScopeSetting.{ScopeSetting}
-use Rattle.eb_term.specs.declared.units.ScopeSetting.TheVariants as settings
-use Rattle.eb_term.specs.declared.units.ScopeBlock.{ScopeBlock}
-use Rattle.eb_term.specs.declared.units.EbUnit.{EbUnit}
-use Rattle.eb_term.specs.declared.units.EbUnit.TheVariants as unit
+use Rattle.eb_syntax.specs.declared.ast.Ast.{Ast}
+use Rattle.eb_syntax.specs.declared.ast.Identifier.{Identifier}
+use Rattle.eb_syntax.specs.declared.query.Goal.{Goal}
+use Rattle.eb_syntax.specs.declared.query.Goal.TheVariants as goals
+use Rattle.eb_syntax.specs.declared.query.Query.{Query}
+use Rattle.eb_syntax.specs.declared.query.Query.TheVariants as queries
+use Rattle.eb_syntax.specs.declared.units.Label.{Label}
+use Rattle.eb_syntax.specs.declared.units.LabelledPredicate.{LabelledPredicate}
+use Rattle.eb_syntax.specs.declared.units.ContextClause.{ContextClause}
+use Rattle.eb_syntax.specs.declared.units.ContextClause.TheVariants as parts
+use Rattle.eb_syntax.specs.declared.units.Context.{Context}
+use Rattle.eb_syntax.specs.declared.units.NamesClause.{NamesClause}
+use Rattle.eb_syntax.specs.declared.units.PredicatesClause.{PredicatesClause}
+use Rattle.eb_syntax.specs.declared.units.Convergence.{Convergence}
+use Rattle.eb_syntax.specs.declared.units.Convergence.TheVariants as convergence
+use Rattle.eb_syntax.specs.declared.units.Inheritance.{Inheritance}
+use Rattle.eb_syntax.specs.declared.units.Inheritance.TheVariants as inherits
+use Rattle.eb_syntax.specs.declared.units.Assignment.{Assignment}
+use Rattle.eb_syntax.specs.declared.units.Assignment.TheVariants as becomes
+use Rattle.eb_syntax.specs.declared.units.Action.{Action}
+use Rattle.eb_syntax.specs.declared.units.Event.{Event}
+use Rattle.eb_syntax.specs.declared.units.MachineClause.{MachineClause}
+use Rattle.eb_syntax.specs.declared.units.MachineClause.TheVariants as clauses
+use Rattle.eb_syntax.specs.declared.units.Refinement.{Refinement}
+use Rattle.eb_syntax.specs.declared.units.Machine.{Machine}
+use Rattle.eb_syntax.specs.declared.units.ScopeSetting.{ScopeSetting}
+use Rattle.eb_syntax.specs.declared.units.ScopeSetting.TheVariants as settings
+use Rattle.eb_syntax.specs.declared.units.ScopeBlock.{ScopeBlock}
+use Rattle.eb_syntax.specs.declared.units.EbUnit.{EbUnit}
+use Rattle.eb_syntax.specs.declared.units.EbUnit.TheVariants as unit
 use Rattle.eb_parser.specs.declared.formulas.FormulaKind.TheVariants as formula
 use Rattle.eb_parser.specs.Signs.{IsSign}
 use Rattle.eb_parser.specs.Fronts.{Front}

@@ -1,3 +1,4 @@
 pub mod Grammar
 pub mod Faults
-pub mod Reading
+-- how the reader goes on, as a means of proof; no public function cites it
+pub mod steps

@@ -1,16 +1,17 @@
 //! Actions.
-ghost use Rattle.std.specs.Prelude.{◌≡◌, ◌<◌, ◌^◌, length, drop, IfErr, Err, [], ◌∷◌};
-ghost use Rattle.eb_parser.specs.Fronts.{Finds};
-ghost use Rattle.eb_units.specs.Reading.{IsPlaced};
-ghost use Rattle.eb_units.specs.Reading as spec;
+ghost use Rattle.std.specs.Prelude.{◌<◌, ◌^◌, length, drop, IfErr, Err};
+ghost use Rattle.eb_parser.specs.steps.Finding.{Finds};
+ghost use Rattle.eb_units.specs.steps.Descending.{IsPlaced};
+ghost use Rattle.eb_units.specs.steps.Descending as spec;
 
 use super::front::{
     at_label, at_sign, fault_at, formula_at, label_at, name_at, next, sign_at, skip,
 };
-use super::lists::{exprs_at, more_names};
+use super::lists::exprs_at;
+use super::many::{Listed, more};
 use eb_lexer::{Sign, Tokens};
 use eb_parser::{FormulaKind, ParseFault};
-use eb_term::{Action, Actions, Assignment, Ast, Identifier, Identifiers};
+use eb_syntax::{Action, Assignment, Ast, Identifier, Identifiers};
 use sqlite_items::Items;
 use std::alloc::Global;
 
@@ -32,7 +33,7 @@ fn as_many(
     }
 }
 
-#[tactic(auto, unfolding(crate::specs::Reading::equal_at))]
+#[tactic(auto, unfolding(crate::specs::steps::Descending::equal_at))]
 fn equal_at(
     alloc: Global,
     tokens: &Tokens,
@@ -47,7 +48,7 @@ fn equal_at(
     as_many(tokens, names, values, rest)
 }
 
-#[tactic(auto, unfolding(crate::specs::Reading::such_at))]
+#[tactic(auto, unfolding(crate::specs::steps::Descending::such_at))]
 fn such_at(
     alloc: Global,
     tokens: &Tokens,
@@ -64,7 +65,7 @@ fn such_at(
 }
 
 /// What is behind the names of an assignment.
-#[tactic(auto, unfolding(crate::specs::Reading::assigned_at))]
+#[tactic(auto, unfolding(crate::specs::steps::Descending::assigned_at))]
 fn assigned_at(
     alloc: Global,
     tokens: &Tokens,
@@ -82,7 +83,7 @@ fn assigned_at(
     }
 }
 
-#[tactic(auto, unfolding(crate::specs::Reading::applied_at))]
+#[tactic(auto, unfolding(crate::specs::steps::Descending::applied_at))]
 fn applied_at(
     alloc: Global,
     tokens: &Tokens,
@@ -100,7 +101,7 @@ fn applied_at(
     Ok((Assignment::BecomesEqualAt(name, argument, value), rest))
 }
 
-#[tactic(auto, unfolding(crate::specs::Reading::member_at))]
+#[tactic(auto, unfolding(crate::specs::steps::Descending::member_at))]
 fn member_at(
     alloc: Global,
     tokens: &Tokens,
@@ -115,7 +116,7 @@ fn member_at(
     Ok((Assignment::BecomesMember(name, set), rest))
 }
 
-#[tactic(auto, unfolding(crate::specs::Reading::several_at))]
+#[tactic(auto, unfolding(crate::specs::steps::Descending::several_at))]
 fn several_at(
     alloc: Global,
     tokens: &Tokens,
@@ -126,12 +127,12 @@ fn several_at(
     ensures exact { Finds tokens.now result (spec.several_at 201 (spec.room tokens.now) name (drop at tokens.now)) }
     ensures placed { IfErr result (IsPlaced tokens.now) }
 {
-    let (names, rest) = more_names(alloc, tokens, name, at)?;
+    let (names, rest) = more::<Identifier>(alloc, tokens, name, at)?;
     assigned_at(alloc, tokens, names, rest)
 }
 
 /// What is behind the first name of an assignment.
-#[tactic(auto, unfolding(crate::specs::Reading::assigns_at))]
+#[tactic(auto, unfolding(crate::specs::steps::Descending::assigns_at))]
 fn assigns_at(
     alloc: Global,
     tokens: &Tokens,
@@ -151,7 +152,7 @@ fn assigns_at(
     }
 }
 
-#[tactic(auto, unfolding(crate::specs::Reading::assignment_at))]
+#[tactic(auto, unfolding(crate::specs::steps::Descending::assignment_at))]
 fn assignment_at(alloc: Global, tokens: &Tokens, at: u32) -> Result<(Assignment, u32), ParseFault>
     requires { length tokens.now < 2 ^ 32 }
     ensures exact { Finds tokens.now result (spec.assignment_at 201 (spec.room tokens.now) (drop at tokens.now)) }
@@ -162,32 +163,19 @@ fn assignment_at(alloc: Global, tokens: &Tokens, at: u32) -> Result<(Assignment,
 }
 
 /// The action here.
-#[tactic(auto, unfolding(crate::specs::Reading::action_at))]
-fn action_at(alloc: Global, tokens: &Tokens, at: u32) -> Result<(Action, u32), ParseFault>
-    requires { length tokens.now < 2 ^ 32 }
-    ensures exact { Finds tokens.now result (spec.action_at 201 (spec.room tokens.now) (drop at tokens.now)) }
-    ensures placed { IfErr result (IsPlaced tokens.now) }
-{
-    let (label, rest) = label_at(alloc, tokens, at)?;
-    let (assignment, rest) = assignment_at(alloc, tokens, skip(tokens, Sign::MemberOf, rest))?;
-    Ok((Action { label, assignment }, rest))
-}
+impl Listed for Action {
+    ghost begins = { spec.at_label };
 
-/// The actions from here on.
-pub fn all_actions(alloc: Global, tokens: &Tokens, at: u32) -> Result<(Actions, u32), ParseFault>
-    requires { length tokens.now < 2 ^ 32 }
-    ensures exact { Finds tokens.now result (spec.many spec.at_label (spec.action_at 201 (spec.room tokens.now)) (spec.room tokens.now) (drop at tokens.now)) }
-    ensures placed { IfErr result (IsPlaced tokens.now) }
-{
-    let mut read = Actions::new(alloc);
-    let mut rest = at;
-    for _ in 0..tokens.len() + 1 {
-        if !at_label(tokens, rest) {
-            return Ok((read, rest));
-        }
-        let (one, after) = action_at(alloc, tokens, rest)?;
-        read.push(one)?;
-        rest = after;
+    ghost reads = { λ ts. spec.action_at 201 (spec.room ts) };
+
+    fn is_here(tokens: &Tokens, at: u32) -> bool {
+        at_label(tokens, at)
     }
-    Err(fault_at(tokens, rest))
+
+    #[tactic(auto, unfolding(crate::specs::steps::Descending::action_at))]
+    fn take(alloc: Global, tokens: &Tokens, at: u32) -> Result<(Action, u32), ParseFault> {
+        let (label, rest) = label_at(alloc, tokens, at)?;
+        let (assignment, rest) = assignment_at(alloc, tokens, skip(tokens, Sign::MemberOf, rest))?;
+        Ok((Action { label, assignment }, rest))
+    }
 }

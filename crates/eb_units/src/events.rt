@@ -1,16 +1,17 @@
 //! Events.
-ghost use Rattle.std.specs.Prelude.{◌≡◌, ◌<◌, ◌^◌, length, drop, IfErr, Err};
-ghost use Rattle.eb_parser.specs.Fronts.{Finds};
-ghost use Rattle.eb_units.specs.Reading.{IsPlaced};
-ghost use Rattle.eb_units.specs.Reading as spec;
+ghost use Rattle.std.specs.Prelude.{◌≡◌, ◌<◌, ◌^◌, length, drop, IfErr};
+ghost use Rattle.eb_parser.specs.steps.Finding.{Finds};
+ghost use Rattle.eb_units.specs.steps.Descending.{IsPlaced};
+ghost use Rattle.eb_units.specs.steps.Descending as spec;
 
-use super::actions::all_actions;
-use super::front::{at_sign, fault_at, name_at, next, sign_at};
-use super::lists::{all_labelled, names_at};
+use super::front::{at_sign, name_at, next, sign_at};
+use super::lists::names_at;
+use super::many::{Listed, many};
 use eb_lexer::{Sign, Tokens};
 use eb_parser::ParseFault;
-use eb_term::{
-    Actions, Convergence, Event, Events, Identifier, Inheritance, NamesClause, PredicatesClause,
+use eb_syntax::{
+    Action, Actions, Convergence, Event, Identifier, Inheritance, LabelledPredicate, NamesClause,
+    PredicatesClause,
 };
 use std::alloc::Global;
 
@@ -39,7 +40,7 @@ fn behind_convergence(tokens: &Tokens, convergence: Option<Convergence>, at: u32
 }
 
 /// The names behind this sign.
-#[tactic(auto, unfolding(crate::specs::Reading::names_part_at))]
+#[tactic(auto, unfolding(crate::specs::steps::Descending::names_part_at))]
 fn names_part_at(
     alloc: Global,
     tokens: &Tokens,
@@ -56,7 +57,7 @@ fn names_part_at(
 }
 
 /// The predicates behind this sign.
-#[tactic(auto, unfolding(crate::specs::Reading::predicates_part_at))]
+#[tactic(auto, unfolding(crate::specs::steps::Descending::predicates_part_at))]
 fn predicates_part_at(
     alloc: Global,
     tokens: &Tokens,
@@ -68,11 +69,11 @@ fn predicates_part_at(
     ensures placed { IfErr result (IsPlaced tokens.now) }
 {
     let (place, rest) = sign_at(tokens, sign, at)?;
-    let (predicates, rest) = all_labelled(alloc, tokens, rest)?;
+    let (predicates, rest) = many::<LabelledPredicate>(alloc, tokens, rest)?;
     Ok((PredicatesClause { place, predicates }, rest))
 }
 
-#[tactic(auto, unfolding(crate::specs::Reading::refines_at))]
+#[tactic(auto, unfolding(crate::specs::steps::Descending::refines_at))]
 fn refines_at(
     alloc: Global,
     tokens: &Tokens,
@@ -86,7 +87,7 @@ fn refines_at(
     Ok((Some(Inheritance::Refines(clause)), rest))
 }
 
-#[tactic(auto, unfolding(crate::specs::Reading::extends_at))]
+#[tactic(auto, unfolding(crate::specs::steps::Descending::extends_at))]
 fn extends_at(
     alloc: Global,
     tokens: &Tokens,
@@ -100,7 +101,7 @@ fn extends_at(
     Ok((Some(Inheritance::Extends(clause)), rest))
 }
 
-#[tactic(auto, unfolding(crate::specs::Reading::inherits_at))]
+#[tactic(auto, unfolding(crate::specs::steps::Descending::inherits_at))]
 fn inherits_at(
     alloc: Global,
     tokens: &Tokens,
@@ -119,7 +120,7 @@ fn inherits_at(
     }
 }
 
-#[tactic(auto, unfolding(crate::specs::Reading::parameters_at))]
+#[tactic(auto, unfolding(crate::specs::steps::Descending::parameters_at))]
 fn parameters_at(
     alloc: Global,
     tokens: &Tokens,
@@ -137,7 +138,7 @@ fn parameters_at(
 }
 
 /// The predicates behind this sign, where it stands here.
-#[tactic(auto, unfolding(crate::specs::Reading::part_behind_at))]
+#[tactic(auto, unfolding(crate::specs::steps::Descending::part_behind_at))]
 fn part_behind_at(
     alloc: Global,
     tokens: &Tokens,
@@ -155,7 +156,7 @@ fn part_behind_at(
     Ok((Some(clause), rest))
 }
 
-#[tactic(auto, unfolding(crate::specs::Reading::guards_at))]
+#[tactic(auto, unfolding(crate::specs::steps::Descending::guards_at))]
 fn guards_at(
     alloc: Global,
     tokens: &Tokens,
@@ -173,21 +174,21 @@ fn guards_at(
 }
 
 /// The actions behind `then` or `begin`, none without it.
-#[tactic(auto, unfolding(crate::specs::Reading::does_at))]
+#[tactic(auto, unfolding(crate::specs::steps::Descending::does_at))]
 fn does_at(alloc: Global, tokens: &Tokens, at: u32) -> Result<(Actions, u32), ParseFault>
     requires { length tokens.now < 2 ^ 32 }
     ensures exact { Finds tokens.now result (spec.does_at 201 (spec.room tokens.now) (drop at tokens.now)) }
     ensures placed { IfErr result (IsPlaced tokens.now) }
 {
     if at_sign(tokens, Sign::Then, at) || at_sign(tokens, Sign::Begin, at) {
-        all_actions(alloc, tokens, next(tokens, at))
+        many::<Action>(alloc, tokens, next(tokens, at))
     } else {
         Ok((Actions::new(alloc), at))
     }
 }
 
 /// An event from its word to its parameters.
-#[tactic(auto, unfolding(crate::specs::Reading::event_head_at))]
+#[tactic(auto, unfolding(crate::specs::steps::Descending::event_head_at))]
 fn event_head_at(
     alloc: Global,
     tokens: &Tokens,
@@ -205,7 +206,7 @@ fn event_head_at(
 }
 
 /// An event from its guards on.
-#[tactic(auto, unfolding(crate::specs::Reading::event_body_at))]
+#[tactic(auto, unfolding(crate::specs::steps::Descending::event_body_at))]
 fn event_body_at(
     alloc: Global,
     tokens: &Tokens,
@@ -229,53 +230,34 @@ fn event_body_at(
 }
 
 /// The event here.
-#[tactic(auto, unfolding(crate::specs::Reading::event_at))]
-fn event_at(alloc: Global, tokens: &Tokens, at: u32) -> Result<(Event, u32), ParseFault>
-    requires { length tokens.now < 2 ^ 32 }
-    ensures exact { Finds tokens.now result (spec.event_at 201 (spec.room tokens.now) (drop at tokens.now)) }
-    ensures placed { IfErr result (IsPlaced tokens.now) }
-{
-    let convergence = convergence_at(tokens, at);
-    let rest = behind_convergence(tokens, convergence, at);
-    let ((name, inheritance, parameters), rest) = event_head_at(alloc, tokens, rest)?;
-    let ((guards, witnesses, actions), rest) = event_body_at(alloc, tokens, rest)?;
-    Ok((
-        Event {
-            convergence,
-            name,
-            inheritance,
-            parameters,
-            guards,
-            witnesses,
-            actions,
-        },
-        rest,
-    ))
-}
+impl Listed for Event {
+    ghost begins = { spec.opens_event };
 
-#[tactic(auto, unfolding(crate::specs::Reading::opens_event))]
-fn opens_event(tokens: &Tokens, at: u32) -> bool
-    ensures { result ≡ spec.opens_event (drop at tokens.now) }
-{
-    (at_sign(tokens, Sign::Event, at) || at_sign(tokens, Sign::Ordinary, at))
-        || (at_sign(tokens, Sign::Convergent, at) || at_sign(tokens, Sign::Anticipated, at))
-}
+    ghost reads = { λ ts. spec.event_at 201 (spec.room ts) };
 
-/// The events from here on.
-pub fn all_events(alloc: Global, tokens: &Tokens, at: u32) -> Result<(Events, u32), ParseFault>
-    requires { length tokens.now < 2 ^ 32 }
-    ensures exact { Finds tokens.now result (spec.many spec.opens_event (spec.event_at 201 (spec.room tokens.now)) (spec.room tokens.now) (drop at tokens.now)) }
-    ensures placed { IfErr result (IsPlaced tokens.now) }
-{
-    let mut read = Events::new(alloc);
-    let mut rest = at;
-    for _ in 0..tokens.len() + 1 {
-        if !opens_event(tokens, rest) {
-            return Ok((read, rest));
-        }
-        let (one, after) = event_at(alloc, tokens, rest)?;
-        read.push(one)?;
-        rest = after;
+    #[tactic(auto, unfolding(crate::specs::steps::Descending::opens_event))]
+    fn is_here(tokens: &Tokens, at: u32) -> bool {
+        (at_sign(tokens, Sign::Event, at) || at_sign(tokens, Sign::Ordinary, at))
+            || (at_sign(tokens, Sign::Convergent, at) || at_sign(tokens, Sign::Anticipated, at))
     }
-    Err(fault_at(tokens, rest))
+
+    #[tactic(auto, unfolding(crate::specs::steps::Descending::event_at))]
+    fn take(alloc: Global, tokens: &Tokens, at: u32) -> Result<(Event, u32), ParseFault> {
+        let convergence = convergence_at(tokens, at);
+        let rest = behind_convergence(tokens, convergence, at);
+        let ((name, inheritance, parameters), rest) = event_head_at(alloc, tokens, rest)?;
+        let ((guards, witnesses, actions), rest) = event_body_at(alloc, tokens, rest)?;
+        Ok((
+            Event {
+                convergence,
+                name,
+                inheritance,
+                parameters,
+                guards,
+                witnesses,
+                actions,
+            },
+            rest,
+        ))
+    }
 }

@@ -1,7 +1,7 @@
 //! Laws of the grammar.
 ghost use Rattle.std.specs.Prelude.{◌≡◌, ℕ, List};
 ghost use Rattle.eb_lexer.specs.declared.token.Token.{Token};
-ghost use Rattle.eb_term.specs.declared.units.EbUnit.{EbUnit};
+ghost use Rattle.eb_syntax.specs.declared.units.EbUnit.{EbUnit};
 ghost use Rattle.eb_units.specs.Grammar as grammar;
 
 use eb_parser::formulas_are_found_at_the_front;

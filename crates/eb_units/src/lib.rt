@@ -8,13 +8,11 @@ mod front;
 mod laws;
 mod lists;
 mod machines;
-mod requests;
+mod many;
+mod queries;
 mod scopes;
 mod text;
 
 pub use eb_parser::ParseFault;
 pub use laws::a_text_has_one_reading;
 pub use text::units;
-
-#[cfg(test)]
-mod tests;

@@ -1,21 +1,18 @@
 //! Machines.
-ghost use Rattle.std.specs.Prelude.{◌≡◌, ◌<◌, ◌^◌, length, drop, IfErr, Err};
-ghost use Rattle.eb_parser.specs.Fronts.{Finds};
-ghost use Rattle.eb_units.specs.Reading.{IsPlaced};
-ghost use Rattle.eb_units.specs.Reading as spec;
+ghost use Rattle.std.specs.Prelude.{◌<◌, ◌^◌, length, drop, IfErr};
+ghost use Rattle.eb_parser.specs.steps.Finding.{Finds};
+ghost use Rattle.eb_units.specs.steps.Descending.{IsPlaced};
+ghost use Rattle.eb_units.specs.steps.Descending as spec;
 
-use super::events::all_events;
-use super::front::{
-    at_label, at_sign, fault_at, formula_at, label_at, name_at, next, place_at, sign_at,
-};
-use super::lists::{all_labelled, names_at, names_behind_at};
+use super::front::{at_label, at_sign, formula_at, label_at, name_at, next, place_at, sign_at};
+use super::lists::{names_at, names_behind_at};
+use super::many::{Listed, many};
 use eb_lexer::{Sign, Tokens};
 use eb_parser::{FormulaKind, ParseFault};
-use eb_term::{Machine, MachineClause, Refinement};
-use sqlite_items::Items;
+use eb_syntax::{Event, LabelledPredicate, Machine, MachineClause, Refinement};
 use std::alloc::Global;
 
-#[tactic(auto, unfolding(crate::specs::Reading::variables_at))]
+#[tactic(auto, unfolding(crate::specs::steps::Descending::variables_at))]
 fn variables_at(alloc: Global, tokens: &Tokens, at: u32) -> Result<(MachineClause, u32), ParseFault>
     requires { length tokens.now < 2 ^ 32 }
     ensures exact { Finds tokens.now result (spec.variables_at (spec.room tokens.now) (drop at tokens.now)) }
@@ -25,7 +22,7 @@ fn variables_at(alloc: Global, tokens: &Tokens, at: u32) -> Result<(MachineClaus
     Ok((MachineClause::Variables(names), rest))
 }
 
-#[tactic(auto, unfolding(crate::specs::Reading::invariants_at))]
+#[tactic(auto, unfolding(crate::specs::steps::Descending::invariants_at))]
 fn invariants_at(
     alloc: Global,
     tokens: &Tokens,
@@ -35,11 +32,11 @@ fn invariants_at(
     ensures exact { Finds tokens.now result (spec.invariants_at 201 (spec.room tokens.now) (drop at tokens.now)) }
     ensures placed { IfErr result (IsPlaced tokens.now) }
 {
-    let (invariants, rest) = all_labelled(alloc, tokens, at)?;
+    let (invariants, rest) = many::<LabelledPredicate>(alloc, tokens, at)?;
     Ok((MachineClause::Invariants(invariants), rest))
 }
 
-#[tactic(auto, unfolding(crate::specs::Reading::labelled_variant_at))]
+#[tactic(auto, unfolding(crate::specs::steps::Descending::labelled_variant_at))]
 fn labelled_variant_at(
     alloc: Global,
     tokens: &Tokens,
@@ -54,7 +51,7 @@ fn labelled_variant_at(
     Ok((MachineClause::Variant(Some(label), value), rest))
 }
 
-#[tactic(auto, unfolding(crate::specs::Reading::variant_at))]
+#[tactic(auto, unfolding(crate::specs::steps::Descending::variant_at))]
 fn variant_at(alloc: Global, tokens: &Tokens, at: u32) -> Result<(MachineClause, u32), ParseFault>
     requires { length tokens.now < 2 ^ 32 }
     ensures exact { Finds tokens.now result (spec.variant_at 201 (drop at tokens.now)) }
@@ -67,71 +64,44 @@ fn variant_at(alloc: Global, tokens: &Tokens, at: u32) -> Result<(MachineClause,
     Ok((MachineClause::Variant(None, value), rest))
 }
 
-#[tactic(auto, unfolding(crate::specs::Reading::events_at))]
+#[tactic(auto, unfolding(crate::specs::steps::Descending::events_at))]
 fn events_at(alloc: Global, tokens: &Tokens, at: u32) -> Result<(MachineClause, u32), ParseFault>
     requires { length tokens.now < 2 ^ 32 }
     ensures exact { Finds tokens.now result (spec.events_at 201 (spec.room tokens.now) (drop at tokens.now)) }
     ensures placed { IfErr result (IsPlaced tokens.now) }
 {
     let (_, rest) = sign_at(tokens, Sign::Events, at)?;
-    let (events, rest) = all_events(alloc, tokens, rest)?;
+    let (events, rest) = many::<Event>(alloc, tokens, rest)?;
     Ok((MachineClause::Events(events), rest))
 }
 
 /// The clause of a machine here.
-#[tactic(auto, unfolding(crate::specs::Reading::machine_part_at))]
-fn machine_part_at(
-    alloc: Global,
-    tokens: &Tokens,
-    at: u32,
-) -> Result<(MachineClause, u32), ParseFault>
-    requires { length tokens.now < 2 ^ 32 }
-    ensures exact { Finds tokens.now result (spec.machine_part_at 201 (spec.room tokens.now) (drop at tokens.now)) }
-    ensures placed { IfErr result (IsPlaced tokens.now) }
-{
-    if at_sign(tokens, Sign::Variables, at) {
-        variables_at(alloc, tokens, next(tokens, at))
-    } else if at_sign(tokens, Sign::Invariants, at) {
-        invariants_at(alloc, tokens, next(tokens, at))
-    } else if at_sign(tokens, Sign::Variant, at) {
-        variant_at(alloc, tokens, next(tokens, at))
-    } else {
-        events_at(alloc, tokens, at)
+impl Listed for MachineClause {
+    ghost begins = { spec.opens_machine_part };
+
+    ghost reads = { λ ts. spec.machine_part_at 201 (spec.room ts) };
+
+    #[tactic(auto, unfolding(crate::specs::steps::Descending::opens_machine_part))]
+    fn is_here(tokens: &Tokens, at: u32) -> bool {
+        (at_sign(tokens, Sign::Variables, at) || at_sign(tokens, Sign::Invariants, at))
+            || (at_sign(tokens, Sign::Variant, at) || at_sign(tokens, Sign::Events, at))
     }
-}
 
-#[tactic(auto, unfolding(crate::specs::Reading::opens_machine_part))]
-fn opens_machine_part(tokens: &Tokens, at: u32) -> bool
-    ensures { result ≡ spec.opens_machine_part (drop at tokens.now) }
-{
-    (at_sign(tokens, Sign::Variables, at) || at_sign(tokens, Sign::Invariants, at))
-        || (at_sign(tokens, Sign::Variant, at) || at_sign(tokens, Sign::Events, at))
-}
-
-/// The clauses of a machine from here on.
-fn all_machine_parts(
-    alloc: Global,
-    tokens: &Tokens,
-    at: u32,
-) -> Result<(Items<MachineClause>, u32), ParseFault>
-    requires { length tokens.now < 2 ^ 32 }
-    ensures exact { Finds tokens.now result (spec.many spec.opens_machine_part (spec.machine_part_at 201 (spec.room tokens.now)) (spec.room tokens.now) (drop at tokens.now)) }
-    ensures placed { IfErr result (IsPlaced tokens.now) }
-{
-    let mut read = Items::new(alloc);
-    let mut rest = at;
-    for _ in 0..tokens.len() + 1 {
-        if !opens_machine_part(tokens, rest) {
-            return Ok((read, rest));
+    #[tactic(auto, unfolding(crate::specs::steps::Descending::machine_part_at))]
+    fn take(alloc: Global, tokens: &Tokens, at: u32) -> Result<(MachineClause, u32), ParseFault> {
+        if at_sign(tokens, Sign::Variables, at) {
+            variables_at(alloc, tokens, next(tokens, at))
+        } else if at_sign(tokens, Sign::Invariants, at) {
+            invariants_at(alloc, tokens, next(tokens, at))
+        } else if at_sign(tokens, Sign::Variant, at) {
+            variant_at(alloc, tokens, next(tokens, at))
+        } else {
+            events_at(alloc, tokens, at)
         }
-        let (one, after) = machine_part_at(alloc, tokens, rest)?;
-        read.push(one)?;
-        rest = after;
     }
-    Err(fault_at(tokens, rest))
 }
 
-#[tactic(auto, unfolding(crate::specs::Reading::refinement_at))]
+#[tactic(auto, unfolding(crate::specs::steps::Descending::refinement_at))]
 fn refinement_at(
     alloc: Global,
     tokens: &Tokens,
@@ -150,8 +120,12 @@ fn refinement_at(
 }
 
 /// The machine here.
-#[tactic(auto, unfolding(crate::specs::Reading::machine_at))]
-pub fn machine_at(alloc: Global, tokens: &Tokens, at: u32) -> Result<(Machine, u32), ParseFault>
+#[tactic(auto, unfolding(crate::specs::steps::Descending::machine_at))]
+pub(crate) fn machine_at(
+    alloc: Global,
+    tokens: &Tokens,
+    at: u32,
+) -> Result<(Machine, u32), ParseFault>
     requires { length tokens.now < 2 ^ 32 }
     ensures exact { Finds tokens.now result (spec.machine_at 201 (spec.room tokens.now) (drop at tokens.now)) }
     ensures placed { IfErr result (IsPlaced tokens.now) }
@@ -160,7 +134,7 @@ pub fn machine_at(alloc: Global, tokens: &Tokens, at: u32) -> Result<(Machine, u
     let (name, rest) = name_at(alloc, tokens, rest)?;
     let (refines, rest) = refinement_at(alloc, tokens, rest)?;
     let (sees, rest) = names_behind_at(alloc, tokens, Sign::Sees, rest)?;
-    let (clauses, rest) = all_machine_parts(alloc, tokens, rest)?;
+    let (clauses, rest) = many::<MachineClause>(alloc, tokens, rest)?;
     let (_, rest) = sign_at(tokens, Sign::End, rest)?;
     Ok((
         Machine {

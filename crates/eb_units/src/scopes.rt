@@ -1,16 +1,14 @@
 //! Scopes.
-ghost use Rattle.std.specs.Prelude.{◌≡◌, ◌<◌, ◌^◌, length, drop, IfErr, Err, pos, int_le, true, ◌-ℤ◌};
-ghost use Rattle.eb_parser.specs.Fronts.{Finds};
-ghost use Rattle.eb_units.specs.Reading.{IsPlaced};
-ghost use Rattle.eb_units.specs.Reading as spec;
+ghost use Rattle.std.specs.Prelude.{◌≡◌, ◌<◌, ◌^◌, length, drop, IfErr, pos, int_le, true, ◌-ℤ◌};
+ghost use Rattle.eb_parser.specs.steps.Finding.{Finds};
+ghost use Rattle.eb_units.specs.steps.Descending.{IsPlaced};
+ghost use Rattle.eb_units.specs.steps.Descending as spec;
 
-use super::front::{
-    at_name, at_sign, at_word, fault_at, name_at, next, number_at, sign_at, word_at,
-};
+use super::front::{at_name, at_sign, at_word, name_at, next, number_at, sign_at, word_at};
+use super::many::{Listed, many};
 use eb_lexer::{Sign, Tokens};
 use eb_parser::ParseFault;
-use eb_term::{ScopeBlock, ScopeSetting};
-use sqlite_items::Items;
+use eb_syntax::{ScopeBlock, ScopeSetting};
 use std::alloc::Global;
 
 fn negated(n: i64) -> i64
@@ -20,7 +18,7 @@ fn negated(n: i64) -> i64
 }
 
 /// A number, or a number behind `-`.
-#[tactic(auto, unfolding(crate::specs::Reading::bound_at))]
+#[tactic(auto, unfolding(crate::specs::steps::Descending::bound_at))]
 fn bound_at(tokens: &Tokens, at: u32) -> Result<(i64, u32), ParseFault>
     requires { length tokens.now < 2 ^ 32 }
     ensures exact { Finds tokens.now result (spec.bound_at (drop at tokens.now)) }
@@ -34,7 +32,7 @@ fn bound_at(tokens: &Tokens, at: u32) -> Result<(i64, u32), ParseFault>
     }
 }
 
-#[tactic(auto, unfolding(crate::specs::Reading::integers_at))]
+#[tactic(auto, unfolding(crate::specs::steps::Descending::integers_at))]
 fn integers_at(tokens: &Tokens, at: u32) -> Result<(ScopeSetting, u32), ParseFault>
     requires { length tokens.now < 2 ^ 32 }
     ensures exact { Finds tokens.now result (spec.integers_at (drop at tokens.now)) }
@@ -47,7 +45,7 @@ fn integers_at(tokens: &Tokens, at: u32) -> Result<(ScopeSetting, u32), ParseFau
     Ok((ScopeSetting::Integers(place, lo, hi), rest))
 }
 
-#[tactic(auto, unfolding(crate::specs::Reading::size_at))]
+#[tactic(auto, unfolding(crate::specs::steps::Descending::size_at))]
 fn size_at(alloc: Global, tokens: &Tokens, at: u32) -> Result<(ScopeSetting, u32), ParseFault>
     requires { length tokens.now < 2 ^ 32 }
     ensures exact { Finds tokens.now result (spec.size_at (drop at tokens.now)) }
@@ -59,7 +57,7 @@ fn size_at(alloc: Global, tokens: &Tokens, at: u32) -> Result<(ScopeSetting, u32
     Ok((ScopeSetting::Size(set, size), rest))
 }
 
-#[tactic(auto, unfolding(crate::specs::Reading::depth_at))]
+#[tactic(auto, unfolding(crate::specs::steps::Descending::depth_at))]
 fn depth_at(tokens: &Tokens, at: u32) -> Result<(ScopeSetting, u32), ParseFault>
     requires { length tokens.now < 2 ^ 32 }
     ensures exact { Finds tokens.now result (spec.depth_at (drop at tokens.now)) }
@@ -71,53 +69,40 @@ fn depth_at(tokens: &Tokens, at: u32) -> Result<(ScopeSetting, u32), ParseFault>
 }
 
 /// The setting here.
-#[tactic(auto, unfolding(crate::specs::Reading::setting_at))]
-fn setting_at(alloc: Global, tokens: &Tokens, at: u32) -> Result<(ScopeSetting, u32), ParseFault>
-    requires { length tokens.now < 2 ^ 32 }
-    ensures exact { Finds tokens.now result (spec.setting_at (drop at tokens.now)) }
-    ensures placed { IfErr result (IsPlaced tokens.now) }
-{
-    if at_word(tokens, "int", at) {
-        integers_at(tokens, at)
-    } else if at_word(tokens, "size", at) {
-        size_at(alloc, tokens, at)
-    } else {
-        depth_at(tokens, at)
-    }
-}
+impl Listed for ScopeSetting {
+    ghost begins = { spec.at_name };
 
-/// The settings from here on.
-fn all_settings(
-    alloc: Global,
-    tokens: &Tokens,
-    at: u32,
-) -> Result<(Items<ScopeSetting>, u32), ParseFault>
-    requires { length tokens.now < 2 ^ 32 }
-    ensures exact { Finds tokens.now result (spec.many spec.at_name spec.setting_at (spec.room tokens.now) (drop at tokens.now)) }
-    ensures placed { IfErr result (IsPlaced tokens.now) }
-{
-    let mut read = Items::new(alloc);
-    let mut rest = at;
-    for _ in 0..tokens.len() + 1 {
-        if !at_name(tokens, rest) {
-            return Ok((read, rest));
-        }
-        let (one, after) = setting_at(alloc, tokens, rest)?;
-        read.push(one)?;
-        rest = after;
+    ghost reads = { λ _. spec.setting_at };
+
+    fn is_here(tokens: &Tokens, at: u32) -> bool {
+        at_name(tokens, at)
     }
-    Err(fault_at(tokens, rest))
+
+    #[tactic(auto, unfolding(crate::specs::steps::Descending::setting_at))]
+    fn take(alloc: Global, tokens: &Tokens, at: u32) -> Result<(ScopeSetting, u32), ParseFault> {
+        if at_word(tokens, "int", at) {
+            integers_at(tokens, at)
+        } else if at_word(tokens, "size", at) {
+            size_at(alloc, tokens, at)
+        } else {
+            depth_at(tokens, at)
+        }
+    }
 }
 
 /// The scope here.
-#[tactic(auto, unfolding(crate::specs::Reading::scope_at))]
-pub fn scope_at(alloc: Global, tokens: &Tokens, at: u32) -> Result<(ScopeBlock, u32), ParseFault>
+#[tactic(auto, unfolding(crate::specs::steps::Descending::scope_at))]
+pub(crate) fn scope_at(
+    alloc: Global,
+    tokens: &Tokens,
+    at: u32,
+) -> Result<(ScopeBlock, u32), ParseFault>
     requires { length tokens.now < 2 ^ 32 }
     ensures exact { Finds tokens.now result (spec.scope_at (spec.room tokens.now) (drop at tokens.now)) }
     ensures placed { IfErr result (IsPlaced tokens.now) }
 {
     let (place, rest) = word_at(tokens, "scope", at)?;
-    let (settings, rest) = all_settings(alloc, tokens, rest)?;
+    let (settings, rest) = many::<ScopeSetting>(alloc, tokens, rest)?;
     let (_, rest) = sign_at(tokens, Sign::End, rest)?;
     Ok((ScopeBlock { place, settings }, rest))
 }

@@ -1,22 +1,23 @@
 //! Whole texts.
-ghost use Rattle.std.specs.Prelude.{◌≡◌, ◌<◌, ◌^◌, length, drop, IfErr, IfOk, Err, ℕ, ◌≤◌};
-ghost use Rattle.eb_parser.specs.Fronts.{Finds};
-ghost use Rattle.eb_units.specs.Reading.{IsPlaced};
-ghost use Rattle.eb_units.specs.Reading as spec;
+ghost use Rattle.std.specs.Prelude.{◌<◌, ◌^◌, length, drop, IfErr, IfOk, ℕ, ◌≤◌};
+ghost use Rattle.eb_parser.specs.steps.Finding.{Finds};
+ghost use Rattle.eb_units.specs.steps.Descending.{IsPlaced};
+ghost use Rattle.eb_units.specs.steps.Descending as spec;
 ghost use Rattle.eb_units.specs.Grammar as grammar;
 ghost use Rattle.eb_units.specs.Faults.{IsFaultOf};
 
 use super::contexts::context_at;
-use super::front::{at_sign, at_word, fault_at, is_token};
+use super::front::{at_sign, at_word, is_token};
 use super::machines::machine_at;
-use super::requests::queries_at;
+use super::many::{Listed, many};
+use super::queries::queries_at;
 use super::scopes::scope_at;
 use eb_lexer::{Sign, Tokens};
 use eb_parser::{ParseFault, formulas_are_found_at_the_front};
-use eb_term::{EbUnit, Units};
+use eb_syntax::{EbUnit, Units};
 use std::alloc::Global;
 
-#[tactic(auto, unfolding(crate::specs::Reading::scope_or_queries_at))]
+#[tactic(auto, unfolding(crate::specs::steps::Descending::scope_or_queries_at))]
 fn scope_or_queries_at(alloc: Global, tokens: &Tokens, at: u32) -> Result<(EbUnit, u32), ParseFault>
     requires { length tokens.now < 2 ^ 32 }
     ensures exact { Finds tokens.now result (spec.scope_or_queries_at (spec.room tokens.now) (drop at tokens.now)) }
@@ -32,40 +33,27 @@ fn scope_or_queries_at(alloc: Global, tokens: &Tokens, at: u32) -> Result<(EbUni
 }
 
 /// The unit here.
-#[tactic(auto, unfolding(crate::specs::Reading::unit_at))]
-fn unit_at(alloc: Global, tokens: &Tokens, at: u32) -> Result<(EbUnit, u32), ParseFault>
-    requires { length tokens.now < 2 ^ 32 }
-    ensures exact { Finds tokens.now result (spec.unit_at 201 (spec.room tokens.now) (drop at tokens.now)) }
-    ensures placed { IfErr result (IsPlaced tokens.now) }
-{
-    if at_sign(tokens, Sign::Context, at) {
-        let (context, rest) = context_at(alloc, tokens, at)?;
-        Ok((EbUnit::Context(context), rest))
-    } else if at_sign(tokens, Sign::Machine, at) {
-        let (machine, rest) = machine_at(alloc, tokens, at)?;
-        Ok((EbUnit::Machine(machine), rest))
-    } else {
-        scope_or_queries_at(alloc, tokens, at)
-    }
-}
+impl Listed for EbUnit {
+    ghost begins = { spec.is_token };
 
-/// The units from here to the end of the text.
-fn text_at(alloc: Global, tokens: &Tokens, at: u32) -> Result<(Units, u32), ParseFault>
-    requires { length tokens.now < 2 ^ 32 }
-    ensures exact { Finds tokens.now result (spec.many spec.is_token (spec.unit_at 201 (spec.room tokens.now)) (spec.room tokens.now) (drop at tokens.now)) }
-    ensures placed { IfErr result (IsPlaced tokens.now) }
-{
-    let mut read = Units::new(alloc);
-    let mut rest = at;
-    for _ in 0..tokens.len() + 1 {
-        if !is_token(tokens, rest) {
-            return Ok((read, rest));
-        }
-        let (one, after) = unit_at(alloc, tokens, rest)?;
-        read.push(one)?;
-        rest = after;
+    ghost reads = { λ ts. spec.unit_at 201 (spec.room ts) };
+
+    fn is_here(tokens: &Tokens, at: u32) -> bool {
+        is_token(tokens, at)
     }
-    Err(fault_at(tokens, rest))
+
+    #[tactic(auto, unfolding(crate::specs::steps::Descending::unit_at))]
+    fn take(alloc: Global, tokens: &Tokens, at: u32) -> Result<(EbUnit, u32), ParseFault> {
+        if at_sign(tokens, Sign::Context, at) {
+            let (context, rest) = context_at(alloc, tokens, at)?;
+            Ok((EbUnit::Context(context), rest))
+        } else if at_sign(tokens, Sign::Machine, at) {
+            let (machine, rest) = machine_at(alloc, tokens, at)?;
+            Ok((EbUnit::Machine(machine), rest))
+        } else {
+            scope_or_queries_at(alloc, tokens, at)
+        }
+    }
 }
 
 /// The units of a text, from all of its tokens: contexts, machines, blocks of a scope and blocks of queries, in any order.
@@ -73,14 +61,14 @@ fn text_at(alloc: Global, tokens: &Tokens, at: u32) -> Result<(Units, u32), Pars
 /// The grammar is at the head of specs/Grammar.antt; formulas are those of `formula`. Places are the starts of tokens in bytes.
 ///
 /// Errors: Syntax, with the start of a token or the end of the last one in bytes, where the tokens are no text. TooDeep where in
-/// every reading of the text a formula is higher than 200; then it has more than 200 tokens without a label or a word of units
-/// between them. Memory where memory ran out.
+/// every reading of the text a formula is higher than 200; it may also come where the tokens are no text. Where it comes, more
+/// than 200 tokens stand one behind the other without a label or a word of units between them. Memory where memory ran out.
 pub fn units(alloc: Global, tokens: &Tokens) -> Result<Units, ParseFault>
     requires { length tokens.now < 2 ^ 32 }
     ensures found { IfOk result (λ units. (h : ℕ) × grammar.Reads tokens.now units h × (h ≤ 200)) }
     ensures cause { IfErr result (IsFaultOf tokens.now) }
 {
     formulas_are_found_at_the_front();
-    let (units, _) = text_at(alloc, tokens, 0)?;
+    let (units, _) = many::<EbUnit>(alloc, tokens, 0)?;
     Ok(units)
 }

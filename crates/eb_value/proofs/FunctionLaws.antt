@@ -7,8 +7,9 @@ use Rattle.std.specs.declared.cmp.Ordering.TheVariants.{Equal}
 use Rattle.eb_value.specs.declared.value.Value.{Value}
 use Rattle.eb_value.specs.Values.{pair, is_ascending}
 use Rattle.eb_value.specs.Relations
-use Rattle.eb_value.specs.Merges.{first_of, second_of}
-use Rattle.eb_value.specs.Joins
+use Rattle.eb_value.specs.steps.Merges
+use Rattle.eb_value.specs.steps.Merges.{first_of, second_of}
+use Rattle.eb_value.specs.steps.Joins
 use Rattle.eb_value.proofs.OrderLaws.{reflexive}
 use Rattle.eb_value.proofs.Members.{contains_none, contains_cases, contains_here, contains_there}
 use Rattle.eb_value.proofs.Ascending.{Rises, Below, not_below, rises, first_true}
@@ -16,10 +17,10 @@ use Rattle.eb_value.proofs.MergeLaws.{is_eq-Equal}
 use Rattle.eb_value.proofs.PairLaws.{first_of-pair, second_of-pair, with_first, same_pair}
 use Rattle.eb_value.proofs.ProductLaws.{side_between, side_equal, equal_side, image_in, in_image}
 
-key_same : (a : Value) (o p : Option Value) → o ≡ Some a → p ≡ Some a → Joins.same_key o p ≡ true
+key_same : (a : Value) (o p : Option Value) → o ≡ Some a → p ≡ Some a → Merges.same_key o p ≡ true
 key_same a o p h k = rw (h, k, reflexive a) refl
 
-same_key_is : (o p : Option Value) → Joins.same_key o p ≡ true → (a : Value) × (o ≡ Some a) × (p ≡ Some a)
+same_key_is : (o p : Option Value) → Merges.same_key o p ≡ true → (a : Value) × (o ≡ Some a) × (p ≡ Some a)
 same_key_is None p h = cc
 same_key_is (Some a) None h = cc
 same_key_is (Some a) (Some b) h = (a, refl, ap Some (sym (is_eq-Equal b a h)))
@@ -32,7 +33,7 @@ not_so false h k = cc
 apart : (v : Value) (vs : List Value) → Rises Below (v ∷ vs) → Joins.is_functional (v ∷ vs) ≡ true → (a : Value) → first_of v ≡ Some a → (w : Value) → Contains vs w → first_of w ≡ Some a → ⊥
 apart v [] h f a e w m k = contains_none w m
 apart v (u ∷ vs) h f a e w m k =
-    let differ = not_so (Joins.same_key (first_of v) (first_of u)) (first_true (not (Joins.same_key (first_of v) (first_of u))) (Joins.is_functional (u ∷ vs)) f) in
+    let differ = not_so (Merges.same_key (first_of v) (first_of u)) (first_true (not (Merges.same_key (first_of v) (first_of u))) (Joins.is_functional (u ∷ vs)) f) in
     ⊎_elim
     (λ same. differ (key_same a (first_of v) (first_of u) e (ap first_of same ∙ k)))
     (λ later.
@@ -42,7 +43,7 @@ apart v (u ∷ vs) h f a e w m k =
 
 tail_functional : (v : Value) (vs : List Value) → Joins.is_functional (v ∷ vs) ≡ true → Joins.is_functional vs ≡ true
 tail_functional v [] f = refl
-tail_functional v (u ∷ vs) f = second_so (not (Joins.same_key (first_of v) (first_of u))) (Joins.is_functional (u ∷ vs)) f
+tail_functional v (u ∷ vs) f = second_so (not (Merges.same_key (first_of v) (first_of u))) (Joins.is_functional (u ∷ vs)) f
 
 pub one_second : (f : List Value) → Rises Below f → Joins.is_functional f ≡ true → (x y z : Value) → Relations.Relates f x y → Relations.Relates f x z → y ≡ z
 one_second [] h g x y z m n = absurd (contains_none (pair x y) m)
@@ -62,7 +63,7 @@ more_ambiguous : (v : Value) (vs : List Value) → Relations.IsAmbiguous vs → 
 more_ambiguous v vs a = (a.0, a.1, a.2, contains_there v vs (pair a.0 a.1) a.3, contains_there v vs (pair a.0 a.2) a.4, a.5)
 
 -- two neighbours with one first have different seconds
-neighbours : (v u : Value) (vs : List Value) → Below v u → Joins.same_key (first_of v) (first_of u) ≡ true → Relations.IsAmbiguous (v ∷ u ∷ vs)
+neighbours : (v u : Value) (vs : List Value) → Below v u → Merges.same_key (first_of v) (first_of u) ≡ true → Relations.IsAmbiguous (v ∷ u ∷ vs)
 neighbours v u vs b s =
     let k = same_key_is (first_of v) (first_of u) s in
     let p = with_first v k.0 k.1 in
@@ -75,14 +76,14 @@ neighbours v u vs b s =
       λ e. not_below u (subst (λ z. Below z u) (p.1 ∙ ap (pair k.0) e ∙ sym q.1) b),
     )
 
-ambiguous_by : (v u : Value) (vs : List Value) → Below v u → (Joins.is_functional (u ∷ vs) ≡ false → Relations.IsAmbiguous (u ∷ vs)) → (b : Bool) → Joins.same_key (first_of v) (first_of u) ≡ b → (not b && Joins.is_functional (u ∷ vs)) ≡ false → Relations.IsAmbiguous (v ∷ u ∷ vs)
+ambiguous_by : (v u : Value) (vs : List Value) → Below v u → (Joins.is_functional (u ∷ vs) ≡ false → Relations.IsAmbiguous (u ∷ vs)) → (b : Bool) → Merges.same_key (first_of v) (first_of u) ≡ b → (not b && Joins.is_functional (u ∷ vs)) ≡ false → Relations.IsAmbiguous (v ∷ u ∷ vs)
 ambiguous_by v u vs below later true e h = neighbours v u vs below e
 ambiguous_by v u vs below later false e h = more_ambiguous v (u ∷ vs) (later h)
 
 pub ambiguous : (f : List Value) → Rises Below f → Joins.is_functional f ≡ false → Relations.IsAmbiguous f
 ambiguous [] h g = cc
 ambiguous (v ∷ []) h g = cc
-ambiguous (v ∷ u ∷ vs) h g = ambiguous_by v u vs (h.0 u (contains_here u vs u refl)) (ambiguous (u ∷ vs) h.1) (Joins.same_key (first_of v) (first_of u)) refl g
+ambiguous (v ∷ u ∷ vs) h g = ambiguous_by v u vs (h.0 u (contains_here u vs u refl)) (ambiguous (u ∷ vs) h.1) (Merges.same_key (first_of v) (first_of u)) refl g
 
 -- ---- what is applied
 

@@ -15,6 +15,8 @@ pub mod MergeLaws
 pub mod PairLaws
 pub mod RelationLaws
 pub mod ProductLaws
+pub mod ComposeLaws
+pub mod ComprehensionLaws
 pub mod FunctionLaws
 pub mod ReadingSteps
 pub mod ReadingLaws

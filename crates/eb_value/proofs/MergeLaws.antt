@@ -8,7 +8,7 @@ use Rattle.std.proofs.lemmas.List.Elements.{Contains-append_cases, Contains-appe
 use Rattle.eb_value.specs.declared.value.Value.{Value}
 use Rattle.eb_value.specs.Values.{compare, is_less, is_ascending}
 use Rattle.eb_value.specs.Sets.{IsSetOf, InUnion, InMeet, InMinus}
-use Rattle.eb_value.specs.Merges
+use Rattle.eb_value.specs.steps.Merges
 use Rattle.eb_value.specs.declared.merges.Key.TheVariants.{Itself}
 use Rattle.eb_value.proofs.OrderLaws.{reflexive, exact, reversed, transitive}
 use Rattle.eb_value.proofs.Members.{contains_none, contains_cases, contains_here, contains_there}

@@ -5,8 +5,8 @@ use Rattle.std.proofs.lemmas.List.Elements.{Contains-append_cases, Contains-appe
 use Rattle.eb_value.specs.declared.value.Value.{Value, the_lemmas}
 use Rattle.eb_value.specs.declared.value.Form.TheOpen as val
 use Rattle.eb_value.specs.Values.{Layer, layer, rank, rank_of, pair}
-use Rattle.eb_value.specs.Merges.{first_of, second_of, first_in, second_in}
-use Rattle.eb_value.specs.Joins
+use Rattle.eb_value.specs.steps.Merges.{first_of, second_of, first_in, second_in}
+use Rattle.eb_value.specs.steps.Joins
 use Rattle.eb_value.proofs.Induction.{as_pair}
 use Rattle.eb_value.proofs.Members.{contains_none, contains_cases, contains_here, contains_there}
 

@@ -14,8 +14,8 @@ use Rattle.eb_value.specs.Values.{Layer, layer, rank, rank_of, pair, compare, is
 use Rattle.eb_value.specs.Sets.{IsSetOf}
 use Rattle.eb_value.specs.Relations
 use Rattle.eb_value.specs.Scopes.{pairs}
-use Rattle.eb_value.specs.Merges.{first_of}
-use Rattle.eb_value.specs.Joins
+use Rattle.eb_value.specs.steps.Merges.{first_of}
+use Rattle.eb_value.specs.steps.Joins
 use Rattle.eb_value.proofs.OrderLaws.{reflexive, exact, reversed, transitive, compare-pair, rank_up}
 use Rattle.eb_value.proofs.Induction.{as_pair, rank-pair}
 use Rattle.eb_value.proofs.Members.{contains_none}
@@ -228,13 +228,6 @@ joins_members j r s v = (
 
 partner : (k u z : Value) (s : List Value) → Contains (Joins.images k s) (pair u z) → Relations.Relates s k z
 partner k u z s m = let f = image_in k s (pair u z) m in subst (λ x. Contains s (pair x z)) (same_some u k (sym (first_of-pair u z) ∙ f.1)) f.0
-
-pub compose_set : (r s all : List Value) → IsSetOf (Contains (Joins.joins join.Compose r s)) all → IsSetOf (Relations.InCompose r s) all
-compose_set r s all = same_set (Contains (Joins.joins join.Compose r s)) (Relations.InCompose r s) all
-    (λ v. (
-      λ m. let q = (joins_members join.Compose r s v).0 m in (q.0, q.1, q.3, q.4, q.5, partner q.1 q.2 q.3 s q.6),
-      λ m. (joins_members join.Compose r s v).1 (m.0, m.1, m.1, m.2, m.3, m.4, in_image m.1 s (pair m.1 m.2) m.5 (first_of-pair m.1 m.2)),
-    ))
 
 pub direct_set : (r s all : List Value) → IsSetOf (Contains (Joins.joins join.Direct r s)) all → IsSetOf (Relations.InDirect r s) all
 direct_set r s all = same_set (Contains (Joins.joins join.Direct r s)) (Relations.InDirect r s) all

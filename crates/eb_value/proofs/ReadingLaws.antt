@@ -17,9 +17,9 @@ use Rattle.eb_value.specs.declared.value.Value.{Value}
 use Rattle.eb_value.specs.Types.{integer, boolean, carrier, product, power}
 use Rattle.eb_value.specs.Values.{int, truth, atom, pair, set, is_ascending}
 use Rattle.eb_value.specs.Typing.{size_of, in_range, has_type}
-use Rattle.eb_value.specs.Texts.{name_at, truth_text, atom_text, value_text}
-use Rattle.eb_value.specs.Reading
-use Rattle.eb_value.specs.Reading.{◌>>=◌}
+use Rattle.eb_value.specs.Texts.{AreReadable, name_at, truth_text, atom_text, value_text}
+use Rattle.eb_value.specs.steps.Reading
+use Rattle.eb_value.specs.steps.Reading.{◌>>=◌}
 use Rattle.eb_value.proofs.Induction.{as_int, as_truth, as_atom, as_pair, as_set}
 use Rattle.eb_value.proofs.TypeInduction.{ind_type}
 use Rattle.eb_value.proofs.Members.{contains_here, contains_there}
@@ -126,7 +126,7 @@ integer_begins (negsuc n) h = (45, decimal (suc n), refl, omega arith)
 
 -- ---- a value of each type
 
-module _ (names : List (List ℕ)) (scope : Scope) (readable : Reading.AreReadable names) (fit : All (λ size. size < 2 ^ 32) scope.sizes) where
+module _ (names : List (List ℕ)) (scope : Scope) (readable : AreReadable names) (fit : All (λ size. size < 2 ^ 32) scope.sizes) where
   -- the value's text is read as the value, and begins with no closing brace
   record Prints (t : EbType) (w : Value) : Type 0 where
     read : (rest : List ℕ) → ends rest ≡ true → Reading.value_at names scope.sizes t (value_text names w ++ rest) ≡ Some (w, rest)
@@ -190,7 +190,7 @@ module _ (names : List (List ℕ)) (scope : Scope) (readable : Reading.AreReadab
   size_fits_in (x ∷ sizes) h zero = All-head (λ size. size < 2 ^ 32) x sizes h
   size_fits_in (x ∷ sizes) h (suc place) = size_fits_in sizes (All-tail (λ size. size < 2 ^ 32) x sizes h) place
 
-  name_begins_in : (names : List (List ℕ)) → Reading.AreReadable names → (place k : ℕ) → Begins (atom_text names place k)
+  name_begins_in : (names : List (List ℕ)) → AreReadable names → (place k : ℕ) → Begins (atom_text names place k)
   name_begins_in [] h place k = (35, decimal k, refl, omega arith)
   name_begins_in ([] ∷ names) h zero k = (35, decimal k, refl, omega arith)
   name_begins_in ((c ∷ cs) ∷ names) h zero k = (c, cs ++ (codes "#" ++ decimal k), refl, All-head (λ name. slice_index name 0 ≢ 125) (c ∷ cs) names h)

@@ -9,7 +9,7 @@ use Rattle.eb_value.specs.declared.types.EbType.{EbType}
 use Rattle.eb_value.specs.Texts.{value_text}
 use Rattle.eb_value.specs.Typing.{has_type}
 use Rattle.std.specs.Cmp.Lexicographic.{pointwise}
-use Rattle.eb_value.specs.Reading.{◌>>=◌, Fails, Reading, after, behind, members_at, value_at, whole_value, is_nil}
+use Rattle.eb_value.specs.steps.Reading.{◌>>=◌, Fails, Reading, after, behind, members_at, value_at, whole_value, is_nil}
 
 after_nothing : (xs : List ℕ) → 0 < length xs → after xs [] ≡ None
 after_nothing [] h = absurd (omega arith)

@@ -9,8 +9,8 @@ use Rattle.eb_value.specs.declared.value.Value.{Value}
 use Rattle.eb_value.specs.Values.{layer, pair, compare, is_ascending}
 use Rattle.eb_value.specs.Sets.{IsSetOf, InUnion}
 use Rattle.eb_value.specs.Relations
-use Rattle.eb_value.specs.Merges.{first_of, second_of, kept, key_of}
-use Rattle.eb_value.specs.Joins
+use Rattle.eb_value.specs.steps.Merges.{first_of, second_of, kept, key_of}
+use Rattle.eb_value.specs.steps.Joins
 use Rattle.eb_value.specs.declared.merges.Key.TheVariants.{First}
 use Rattle.eb_value.specs.declared.relations.Part.TheVariants as part
 use Rattle.eb_value.proofs.OrderLaws.{reflexive, exact, compare-pair}

@@ -1,3 +1,4 @@
+-- What the contracts of the public functions lead to.
 pub mod Types
 pub mod Values
 pub mod Typing
@@ -5,7 +6,7 @@ pub mod Scopes
 pub mod Counts
 pub mod Texts
 pub mod Sets
-pub mod Merges
 pub mod Relations
-pub mod Joins
-pub mod Reading
+pub mod Comprehensions
+-- Means of proof, which only private functions cite.
+pub mod steps

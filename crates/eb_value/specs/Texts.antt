@@ -1,5 +1,5 @@
 -- The text of a value.
-use Rattle.std.specs.Prelude.{ℕ, Bool, true, false, List, [], ◌++◌, codes, unwrap_or, slice_get}
+use Rattle.std.specs.Prelude.{◌≢◌, ℕ, Bool, true, false, List, [], ◌++◌, codes, unwrap_or, slice_get, slice_index, All}
 use Rattle.std.specs.List.{join_with_byte}
 use Rattle.std.specs.Fmt.{decimal, signed_decimal}
 use Rattle.eb_value.specs.declared.value.Value.{Value}
@@ -24,6 +24,10 @@ text_step names (val.Bool b) = truth_text b
 text_step names (val.Atom place k) = atom_text names place k
 text_step names (val.Pair a b) = codes "(" ++ (a ++ (codes "|->" ++ (b ++ codes ")")))
 text_step names (val.Set members) = codes "{" ++ (join_with_byte 44 members ++ codes "}")
+
+-- no name begins with a closing brace, with which a set ends
+abbrev pub AreReadable : List (List ℕ) → Type 0
+AreReadable names = All (λ name. slice_index name 0 ≢ 125) names
 
 -- 5, TRUE, S#1, (1|->TRUE), {1,2}
 abbrev pub value_text : List (List ℕ) → Value → List ℕ

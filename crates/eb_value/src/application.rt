@@ -1,13 +1,11 @@
 ghost use Rattle.std.specs.Prelude.{◌≡◌, ◌⊎◌, ◌↔◌, true, IfSome, IsNone};
 ghost use Rattle.std.specs.Option.{option_copied};
-ghost use Rattle.eb_value.specs.Joins as step;
-ghost use Rattle.eb_value.specs.Merges as key;
+ghost use Rattle.eb_value.specs.steps.Joins as step;
 ghost use Rattle.eb_value.specs.Relations as spec;
 ghost use Rattle.eb_value.specs.Values.{is_ascending};
 
 use crate::lists::Values;
-use crate::merges::{first_of, second_of};
-use crate::order::compare;
+use crate::merges::{same_first, second_of};
 use crate::products::images;
 use crate::value::Value;
 
@@ -31,15 +29,6 @@ fn applied<'a>(f: &'a [Value], x: &Value) -> Option<&'a Value>
     }
     let value = images(f, x).first()?;
     second_of(value)
-}
-
-fn same_first(v: &Value, w: &Value) -> bool
-    ensures { result ≡ step.same_key (key.first_of v.now) (key.first_of w.now) }
-{
-    match (first_of(v), first_of(w)) {
-        (Some(a), Some(b)) => compare(a, b).is_eq(),
-        _ => false,
-    }
 }
 
 fn is_functional(f: &[Value]) -> bool

@@ -1,4 +1,4 @@
-//! Types, values and scopes of Event-B, and the plain lists that every other crate uses.
+//! Types, values and scopes of Event-B, and the operators on sets and relations.
 #![tactic(auto)]
 
 mod application;
@@ -6,7 +6,6 @@ mod laws;
 mod listing;
 mod lists;
 mod merges;
-mod name;
 mod order;
 mod products;
 mod read;
@@ -20,12 +19,12 @@ mod value;
 
 pub use application::apply;
 pub use laws::{
-    integers_lie_within_bounds, members_determine_ascending_lists, order_is_total,
-    values_are_ascending, values_are_complete,
+    application_is_determined, integers_lie_within_bounds, members_determine_ascending_lists,
+    order_is_total, relations_are_comprehensions, sets_are_comprehensions, values_are_ascending,
+    values_are_complete,
 };
 pub use listing::values;
-pub use lists::{Bytes, Calls, NamedFiles, Names, Row, Sizes, Values};
-pub use name::Name;
+pub use lists::{Row, Sizes, Values};
 pub use order::{compare, is_ascending};
 pub use products::{compose, cross, direct, parallel};
 pub use read::{ValueFault, read_value};
@@ -37,7 +36,4 @@ pub use sets::{contains, meet, minus, union};
 pub use text::value_text;
 pub use types::{EbType, Shape};
 pub use typing::{count, has_type};
-pub use value::{Form, LIMIT, Value, values_copied};
-
-#[cfg(test)]
-mod tests;
+pub use value::{Form, LIMIT, Value};

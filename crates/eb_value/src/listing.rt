@@ -102,20 +102,21 @@ pub(crate) fn pairs(
 ) -> Result<Values, AllocError>
     ensures { IfOk result (λ all. all ≡ spec.pairs firsts.now seconds.now) }
 {
-    let mut all = Values::new(alloc);
+    let mut all = Vec::new(alloc);
     for first in firsts {
         push_pairs(alloc, &mut all, first, seconds)?;
     }
-    Ok(all)
+    Ok(Values::from_vec(all))
 }
 
-fn push_pairs(
+/// Adds the pairs of the first with each second.
+pub(crate) fn push_pairs(
     alloc: Global,
-    all: &mut Values,
+    all: &mut Vec<Value>,
     first: &Value,
     seconds: &[Value],
 ) -> Result<(), AllocError>
-    ensures { OnOk result (all.new ≡ all.old ++ map (pair first.now) seconds.now) }
+    ensures { OnOk result (all.new.items ≡ all.old.items ++ map (pair first.now) seconds.now) }
 {
     for second in seconds {
         all.push(pair_of(alloc, first, second)?)?;

@@ -1,6 +1,6 @@
 ghost use Rattle.std.specs.Prelude.{◌≡◌, ◌++◌, IfOk, OnOk};
 ghost use Rattle.std.specs.Option.{option_copied};
-ghost use Rattle.eb_value.specs.Merges as spec;
+ghost use Rattle.eb_value.specs.steps.Merges as spec;
 
 use crate::lists::Values;
 use crate::order::compare;
@@ -32,6 +32,16 @@ pub(crate) fn second_of(value: &Value) -> Option<&Value>
     match &value.form {
         Form::Pair(_, second) => Some(second.get()),
         _ => None,
+    }
+}
+
+/// Whether both are pairs with one first.
+pub(crate) fn same_first(v: &Value, w: &Value) -> bool
+    ensures { result ≡ spec.same_key (spec.first_of v.now) (spec.first_of w.now) }
+{
+    match (first_of(v), first_of(w)) {
+        (Some(a), Some(b)) => compare(a, b).is_eq(),
+        _ => false,
     }
 }
 

@@ -1,14 +1,17 @@
 //! Products of sets and of relations. A member of a relation that is no pair counts for nothing.
 
-ghost use Rattle.std.specs.Prelude.{◌≡◌, ◌++◌, true, IfOk, OnOk};
+ghost use Rattle.std.specs.Prelude.{◌≡◌, ◌++◌, ◌⊎◌, ◌↔◌, true, length, take_while, IfOk, OnOk, Contains};
 ghost use Rattle.std.specs.List.{filter_map};
-ghost use Rattle.eb_value.specs.Joins as step;
+ghost use Rattle.eb_value.specs.declared.value.Value.{Value};
+ghost use Rattle.eb_value.specs.steps.Joins as step;
+ghost use Rattle.eb_value.specs.steps.Merges.{second_of};
 ghost use Rattle.eb_value.specs.Relations as spec;
 ghost use Rattle.eb_value.specs.Sets.{IsSetOf};
 ghost use Rattle.eb_value.specs.Values.{is_ascending};
 
-use crate::listing::{pair_of, pairs};
+use crate::listing::{pair_of, pairs, push_pairs};
 use crate::lists::Values;
+use crate::merges::{first_of, same_first, second_of};
 use crate::order::compare;
 use crate::sets::set_of;
 use crate::value::{Form, Value};
@@ -24,12 +27,76 @@ pub fn cross(alloc: Global, a: &Values, b: &Values) -> Result<Values, AllocError
     pairs(alloc, a.as_slice(), b.as_slice())
 }
 
-/// r ; s, first r and then s. The only error is want of memory.
+/// r ; s, first r and then s. The only error is want of memory. Where r is ascending, it takes no
+/// more than a small multiple of the memory of r, s and the result.
 pub fn compose(alloc: Global, r: &Values, s: &Values) -> Result<Values, AllocError>
     requires { is_ascending s.now ≡ true }
     ensures { IfOk result (IsSetOf (spec.InCompose r.now s.now)) }
 {
-    Ok(set_of(joins(alloc, r.as_slice(), s.as_slice(), Join::Compose)?))
+    let mut all = Vec::new(alloc);
+    let mut rest = r.as_slice();
+    while let Some((value, others)) = rest.split_first() {
+        let (run, after) = rest.split_at(run_length(value, others) + 1);
+        push_composed(alloc, &mut all, value, run, s.as_slice())?;
+        rest = after;
+    }
+    Ok(set_of(all))
+}
+
+/// How many values at the front have the first of `value`.
+fn run_length(value: &Value, others: &[Value]) -> usize
+    ensures { result ≡ length (take_while (step.has_first_of value.now) others.now) }
+{
+    others
+        .iter()
+        .take_while(|other| same_first(value, *other))
+        .count()
+}
+
+/// Adds what the pairs of a run, which have the first of `value`, compose to.
+fn push_composed(
+    alloc: Global,
+    all: &mut Vec<Value>,
+    value: &Value,
+    run: &[Value],
+    s: &[Value],
+) -> Result<(), AllocError>
+    requires first { step.HaveFirstOf value.now run.now }
+    requires relation { is_ascending s.now ≡ true }
+    ensures { OnOk result ((v : Value) → Contains all.new.items v
+        ↔ (Contains all.old.items v ⊎ spec.InCompose run.now s.now v)) }
+{
+    if let Some(first) = first_of(value) {
+        let seconds = set_of(ends(alloc, run, s)?);
+        push_pairs(alloc, all, first, seconds.as_slice())?;
+    }
+    Ok(())
+}
+
+/// The seconds of the pairs of `s` whose first is the second of a pair of the run. The seconds of
+/// an ascending run are distinct, so there are at most as many as `s` has pairs.
+fn ends(alloc: Global, run: &[Value], s: &[Value]) -> Result<Vec<Value>, AllocError>
+    requires { is_ascending s.now ≡ true }
+    ensures { IfOk result (λ all. all.items ≡ step.ends s.now run.now) }
+{
+    let mut all = Vec::new(alloc);
+    for value in run {
+        if let Some(middle) = second_of(value) {
+            push_seconds(alloc, &mut all, images(s, middle))?;
+        }
+    }
+    Ok(all)
+}
+
+fn push_seconds(alloc: Global, all: &mut Vec<Value>, pairs: &[Value]) -> Result<(), AllocError>
+    ensures { OnOk result (all.new.items ≡ all.old.items ++ filter_map second_of pairs.now) }
+{
+    for pair in pairs {
+        if let Some(second) = second_of(pair) {
+            all.push(second.copied(alloc)?)?;
+        }
+    }
+    Ok(())
 }
 
 /// r ⊗ s, the direct product: x ↦ (y ↦ z), where r has x ↦ y and s has x ↦ z. The only error
@@ -53,7 +120,6 @@ pub fn parallel(alloc: Global, r: &Values, s: &Values) -> Result<Values, AllocEr
 /// How a pair of one relation and a pair of another make a pair.
 #[derive(Clone, Copy)]
 enum Join {
-    Compose,
     Direct,
     Parallel,
 }
@@ -69,7 +135,6 @@ fn join_of(
     ensures { IfOk result (λ v. v ≡ step.join_of join x.now y.now u.now z.now) }
 {
     match join {
-        Join::Compose => pair_of(alloc, x, z),
         Join::Direct => {
             let seconds = pair_of(alloc, y, z)?;
             pair_of(alloc, x, &seconds)
@@ -125,7 +190,6 @@ fn partners<'a>(s: &'a [Value], join: Join, x: &Value, y: &Value) -> &'a [Value]
     ensures { result.now ≡ step.partners join x.now y.now s.now }
 {
     match join {
-        Join::Compose => images(s, y),
         Join::Direct => images(s, x),
         Join::Parallel => s,
     }

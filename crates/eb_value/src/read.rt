@@ -3,18 +3,18 @@ ghost use Rattle.eb_value.specs.Values.{atom, int, pair, set, truth as truth_val
 ghost use Rattle.std.specs.Option.{option_map};
 ghost use Rattle.eb_value.specs.declared.value.Value.{Value};
 ghost use Rattle.eb_value.specs.declared.read.ValueFault.TheVariants.{Memory};
-ghost use Rattle.eb_value.specs.Reading as spec;
-ghost use Rattle.eb_value.specs.Reading.{Gives};
+ghost use Rattle.eb_value.specs.steps.Reading as spec;
+ghost use Rattle.eb_value.specs.steps.Reading.{Gives};
 ghost use Rattle.eb_value.specs.Texts as print;
 ghost use Rattle.eb_value.specs.Typing as typing;
 
-use crate::lists::{Names, Values};
-use crate::name::Name;
+use crate::lists::Values;
 use crate::scope::Scope;
 use crate::text::value_text;
 use crate::types::{EbType, Shape};
 use crate::typing::has_type;
 use crate::value::{Form, Value};
+use eb_names::{Name, Names};
 use sqlite_items::Boxed;
 use std::alloc::{AllocError, AllocFailed, Global};
 
@@ -51,7 +51,7 @@ pub fn read_value(
     scope: &Scope,
     names: &Names,
 ) -> Result<Value, ValueFault>
-    requires { spec.AreReadable names.now }
+    requires { print.AreReadable names.now }
     ensures read { IfOk result (λ v. text.now ≡ print.value_text names.now v) }
     ensures typed { IfOk result (λ v. typing.has_type scope.now v ty.now ≡ true) }
     ensures only { IfOk result (λ v. (w : Value) → typing.has_type scope.now w ty.now ≡ true

@@ -2,8 +2,8 @@
 
 ghost use Rattle.std.specs.Prelude.{◌≡◌, true, filter, IfOk};
 ghost use Rattle.std.specs.List.{filter_map};
-ghost use Rattle.eb_value.specs.Joins as step;
-ghost use Rattle.eb_value.specs.Merges.{second_of};
+ghost use Rattle.eb_value.specs.steps.Joins as step;
+ghost use Rattle.eb_value.specs.steps.Merges.{second_of};
 ghost use Rattle.eb_value.specs.Relations as spec;
 ghost use Rattle.eb_value.specs.Sets.{IsSetOf};
 ghost use Rattle.eb_value.specs.Values.{is_ascending};

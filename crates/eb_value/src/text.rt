@@ -3,9 +3,8 @@ ghost use Rattle.std.specs.List.{join_with_byte};
 ghost use Rattle.std.specs.Fmt.{signed_decimal};
 ghost use Rattle.eb_value.specs.Texts as spec;
 
-use crate::lists::{Bytes, Names};
-use crate::name::Name;
 use crate::value::{Form, Value};
+use eb_names::{Bytes, Name, Names};
 use itoa::Buffer;
 use std::alloc::{AllocError, Global};
 

@@ -58,7 +58,7 @@ impl Value {
 
 /// Equal values. The only error is want of memory.
 #[cycle(copying)]
-pub fn values_copied(alloc: Global, values: &[Value]) -> Result<Values, AllocError>
+pub(crate) fn values_copied(alloc: Global, values: &[Value]) -> Result<Values, AllocError>
     ensures { IfOk result (λ copy. copy ≡ values.now) }
 {
     let mut copy = Items::new(alloc);

@@ -1,5 +1,5 @@
 -- The integers of an interval, and its two parts by a number.
-use Rattle.std.specs.Prelude.{◌≡◌, ℕ, Bool, true, not, ◌&&◌, if◌then◌else◌, Option, Some, None, ℤ, pos, ◌+ℤ◌, ◌≤ℤ◌, int_lt}
+use Rattle.std.specs.Prelude.{◌≡◌, ℕ, Bool, true, not, ◌&&◌, ◌/◌, if◌then◌else◌, Option, Some, None, ℤ, pos, ◌+ℤ◌, ◌≤ℤ◌, int_lt}
 use Rattle.std.specs.Int.{int_min, int_max, int_gap}
 use Rattle.std.specs.Ordering.{int_eq}
 use Rattle.int_dom.specs.declared.interval.Interval.{Interval}
@@ -21,6 +21,10 @@ is_single d = int_eq d.lo d.hi
 abbrev pub size : Interval → ℕ
 size d = int_gap d.lo (d.hi +ℤ pos 1)
 
+-- halfway from the lower to the upper end, rounded down
+abbrev pub middle : Interval → ℤ
+middle d = d.lo +ℤ pos (int_gap d.lo d.hi / 2)
+
 -- The two parts by the test whether an integer is at most a number.
 abbrev pub at_most : ℤ → Interval → Interval
 at_most n d = record { lo = d.lo; hi = int_min d.hi n }
@@ -36,8 +40,9 @@ has_parts n d = not (is_empty (at_most n d)) && not (is_empty (above n d))
 abbrev pub filled : Interval → Option Interval
 filled d = if is_empty d then None else Some d
 
--- the parts by the number, of which none is empty
+-- the two parts by the middle, of which none is empty
 pub record AreHalves (d : Interval) (halves : Halves) : Type 0 where
+  pub middle : halves.middle ≡ middle d
   pub parts : has_parts halves.middle d ≡ true
   pub low : halves.low ≡ at_most halves.middle d
   pub high : halves.high ≡ above halves.middle d

@@ -72,7 +72,7 @@ impl Interval {
         }
     }
 
-    /// What is above a number, and None where there is nothing.
+    /// What is above a number. None exactly where there is nothing.
     fn above(self, n: i64) -> Option<Interval>
         ensures { result ≡ spec.filled (spec.above n self) }
     {
@@ -85,13 +85,15 @@ impl Interval {
 
     fn middle(self) -> i64
         requires { self.lo <ℤ self.hi }
+        ensures exact { result ≡ spec.middle self }
         ensures parts { spec.has_parts result self ≡ true }
         ensures below { result <ℤ self.hi }
     {
         self.lo + (self.hi.abs_diff(self.lo) / 2) as i64
     }
 
-    /// The two halves of an interval with two or more integers.
+    /// The two halves of an interval with two or more integers: what is at most its middle, which is
+    /// the lower end and half the width, rounded down, and what is above it. Neither is empty.
     pub fn halves(self) -> Halves
         requires { self.lo <ℤ self.hi }
         ensures { spec.AreHalves self result }
@@ -116,7 +118,7 @@ impl Interval {
     }
 }
 
-/// What is at most the middle, and what is above it.
+/// The middle of an interval, what is at most the middle, and what is above it.
 #[derive(Clone, Copy, Debug, PartialEq, Eq)]
 pub struct Halves {
     pub middle: i64,

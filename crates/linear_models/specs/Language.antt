@@ -9,22 +9,22 @@
 use Rattle.std.specs.Prelude.{ℕ, Bool, true, false, not, ◌&&◌, nat_le, int_le, if◌then◌else◌, List, [], ◌∷◌, ◌++◌, map, length, ℤ, pos, negsuc, Option, Some, None, option_map, option_and_then}
 use Rattle.std.specs.List.{list_all, list_any, flat_map}
 use Rattle.std.specs.Str.{bytes_eq}
-use Rattle.eb_term.specs.declared.ast.Ast.{Ast}
-use Rattle.eb_term.specs.declared.ast.Node.{Node-F}
-use Rattle.eb_term.specs.declared.ast.Node.TheOpen as form
-use Rattle.eb_term.specs.declared.ast.Operator.{Operator}
-use Rattle.eb_term.specs.declared.ast.Operator.TheVariants as op
-use Rattle.eb_term.specs.declared.ast.Identifier.{Identifier}
-use Rattle.eb_term.specs.declared.units.LabelledPredicate.{LabelledPredicate}
-use Rattle.eb_term.specs.declared.units.ContextClause.{ContextClause}
-use Rattle.eb_term.specs.declared.units.ContextClause.TheVariants as clause
-use Rattle.eb_term.specs.declared.units.ScopeSetting.{ScopeSetting}
-use Rattle.eb_term.specs.declared.units.ScopeSetting.TheVariants as setting
-use Rattle.eb_term.specs.declared.query.Query.{Query}
-use Rattle.eb_term.specs.declared.query.Query.TheVariants as query
-use Rattle.eb_term.specs.declared.units.EbUnit.{EbUnit}
-use Rattle.eb_term.specs.declared.units.EbUnit.TheVariants as eb
-use Rattle.eb_term.specs.Asts.{by_parts}
+use Rattle.eb_syntax.specs.declared.ast.Ast.{Ast}
+use Rattle.eb_syntax.specs.declared.ast.Node.{Node-F}
+use Rattle.eb_syntax.specs.declared.ast.Node.TheOpen as form
+use Rattle.eb_syntax.specs.declared.ast.Operator.{Operator}
+use Rattle.eb_syntax.specs.declared.ast.Operator.TheVariants as op
+use Rattle.eb_syntax.specs.declared.ast.Identifier.{Identifier}
+use Rattle.eb_syntax.specs.declared.units.LabelledPredicate.{LabelledPredicate}
+use Rattle.eb_syntax.specs.declared.units.ContextClause.{ContextClause}
+use Rattle.eb_syntax.specs.declared.units.ContextClause.TheVariants as clause
+use Rattle.eb_syntax.specs.declared.units.ScopeSetting.{ScopeSetting}
+use Rattle.eb_syntax.specs.declared.units.ScopeSetting.TheVariants as setting
+use Rattle.eb_syntax.specs.declared.query.Query.{Query}
+use Rattle.eb_syntax.specs.declared.query.Query.TheVariants as query
+use Rattle.eb_syntax.specs.declared.units.EbUnit.{EbUnit}
+use Rattle.eb_syntax.specs.declared.units.EbUnit.TheVariants as eb
+use Rattle.eb_syntax.specs.Asts.{by_parts}
 use Rattle.linear_models.specs.declared.syntax.Relation.{Relation}
 use Rattle.linear_models.specs.declared.syntax.Relation.TheVariants as r
 use Rattle.linear_models.specs.declared.syntax.Direction.{Direction}

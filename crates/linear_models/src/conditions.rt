@@ -5,7 +5,7 @@ ghost use Rattle.std.specs.Str.{bytes_eq};
 ghost use Rattle.linear_models.specs.Language as spec;
 
 use crate::syntax::{Axiom, Comparison, Context, Direction, LinearModel, Relation, Sum, Summand};
-use eb_value::Name;
+use eb_names::Name;
 
 /// How many constants and axioms there are at most.
 const MOST: usize = 65536;

@@ -4,10 +4,10 @@ ghost use Rattle.linear_models.specs.Language as spec;
 
 use crate::conditions::is_well_formed;
 use crate::syntax::{Axiom, Comparison, Context, Direction, LinearModel, Relation, Sum, Summand};
-use eb_term::{
+use eb_names::{Name, Names};
+use eb_syntax::{
     Ast, ContextClause, EbUnit, Identifier, LabelledPredicate, Node, Operator, Query, ScopeSetting,
 };
-use eb_value::{Name, Names};
 use sqlite_items::Items;
 use std::alloc::{AllocError, Global};
 
@@ -278,7 +278,7 @@ fn clauses_of(
     }))
 }
 
-fn context_of(alloc: Global, context: &eb_term::Context) -> Result<Option<Context>, AllocError>
+fn context_of(alloc: Global, context: &eb_syntax::Context) -> Result<Option<Context>, AllocError>
     ensures { IfOk result (λ c. c ≡ spec.context_of context.now.extends context.now.name.name context.now.clauses) }
 {
     if !context.extends.as_slice().is_empty() {

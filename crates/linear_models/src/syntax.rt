@@ -1,6 +1,7 @@
-use eb_value::{Name, Names};
+use eb_names::{Name, Names};
 use sqlite_items::Items;
 
+/// How the two sides of a comparison stand.
 #[derive(Clone, Copy, Debug, PartialEq, Eq)]
 pub enum Relation {
     Less,
@@ -11,6 +12,7 @@ pub enum Relation {
     Unequal,
 }
 
+/// Whether a part of a sum is added or subtracted.
 #[derive(Clone, Copy, Debug, PartialEq, Eq)]
 pub enum Direction {
     Plus,
@@ -35,6 +37,7 @@ pub struct Sum {
     pub rest: Items<(Direction, Summand)>,
 }
 
+/// Two sums and how they stand.
 #[derive(Drop)]
 pub struct Comparison {
     pub left: Sum,
@@ -49,6 +52,7 @@ pub struct Axiom {
     pub comparisons: Items<Comparison>,
 }
 
+/// Constants, which are integers, and axioms of comparisons over them.
 #[derive(Drop)]
 pub struct Context {
     pub name: Name,

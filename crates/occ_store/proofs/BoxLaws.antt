@@ -4,7 +4,8 @@ use Rattle.std.proofs.lemmas.List.{set-set, reverse-append}
 use Rattle.int_dom.specs.declared.interval.Interval.{Interval}
 use Rattle.occ_store.specs.declared.boxes.Change.{Change}
 use Rattle.occ_store.specs.Stores.{Store}
-use Rattle.occ_store.specs.Boxes.{after_first, HasChoice, split_first, later, boxes_from}
+use Rattle.occ_store.specs.Boxes.{after_first, HasChoice, split_first}
+use Rattle.occ_store.specs.steps.Changes.{later, boxes_from}
 
 set_same : (store : Store) (k : ℕ) (d : Interval) → slice_get store k ≡ Some d → set store k d ≡ store
 set_same [] k d at = refl
@@ -35,12 +36,12 @@ split_is : (closed : Bool) (store : Store) (k : ℕ) (low high before : Interval
 split_is true store k low high before first second changes at a b = refl
 split_is false store k low high before first second changes at a b = split_open store k low high before first second changes at a b
 
-two_more : (changes : List Change) (first second : Change) → reverse ((changes ++ (first ∷ [])) ++ (second ∷ [])) ≡ second ∷ (first ∷ reverse changes)
-two_more changes first second = reverse-append (changes ++ (first ∷ [])) (second ∷ []) ∙ ap (λ xs. second ∷ xs) (reverse-append changes (first ∷ []))
+two_more : (changes : List Change) (first second : Change) → reverse (changes ++ (first ∷ second ∷ [])) ≡ second ∷ (first ∷ reverse changes)
+two_more changes first second = reverse-append changes (first ∷ second ∷ [])
 
 pub split : (closed : Bool) (store : Store) (k : ℕ) (low high before : Interval) (first second : Change) (changes : List Change) → slice_get store k ≡ Some before
     → first ≡ record { choice = k; domain = before; is_box = false } → second ≡ record { choice = k; domain = high; is_box = true }
-    → boxes_from closed (set store k low) (reverse ((changes ++ (first ∷ [])) ++ (second ∷ []))) ≡ split_first k low high (boxes_from closed store (reverse changes))
+    → boxes_from closed (set store k low) (reverse (changes ++ (first ∷ second ∷ []))) ≡ split_first k low high (boxes_from closed store (reverse changes))
 split closed store k low high before first second changes at a b =
     ap (boxes_from closed (set store k low)) (two_more changes first second) ∙ split_is closed store k low high before first second (reverse changes) at a b
 

@@ -5,7 +5,7 @@ use Rattle.int_dom.specs.declared.interval.Interval.{Interval}
 use Rattle.int_dom.specs.Intervals.{is_empty, at_most, above, has_parts, filled}
 use Rattle.occ_store.specs.Places.{has_at, passes, changed_at}
 use Rattle.occ_store.specs.Stores.{Store, AreParts}
-use Rattle.occ_store.specs.Parts.{both}
+use Rattle.occ_store.specs.steps.Parts.{both}
 
 -- a store with a changed domain is the store with that domain set
 pub changed_set : {A : Type 0} (f : A → A) (k : ℕ) (xs : List A) (x : A) → slice_get xs k ≡ Some x → changed_at f k xs ≡ set xs k (f x)

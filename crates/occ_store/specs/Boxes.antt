@@ -1,7 +1,6 @@
 -- Lists of boxes, first ones first. Each box is a store.
-use Rattle.std.specs.Prelude.{ℕ, ◌<◌, Bool, true, false, cond, List, [], ◌∷◌, set, length}
+use Rattle.std.specs.Prelude.{ℕ, ◌<◌, List, [], ◌∷◌, set, length}
 use Rattle.int_dom.specs.declared.interval.Interval.{Interval}
-use Rattle.occ_store.specs.declared.boxes.Change.{Change}
 use Rattle.occ_store.specs.Stores.{Store}
 
 -- the boxes behind the first
@@ -18,17 +17,3 @@ HasChoice (store ∷ stores) choice = choice < length store
 abbrev pub split_first : ℕ → Interval → Interval → List Store → List Store
 split_first choice low high [] = []
 split_first choice low high (store ∷ stores) = set store choice low ∷ (set store choice high ∷ stores)
-
--- the store with the change
-abbrev pub changed : Store → Change → Store
-changed store change = set store change.choice change.domain
-
--- the boxes that changes lead to, one after another
-abbrev pub later : Store → List Change → List Store
-later store [] = []
-later store (change ∷ changes) = cond change.is_box (changed store change ∷ later (changed store change) changes) (later (changed store change) changes)
-
--- what the fields of `Boxes` stand for
-abbrev pub boxes_from : Bool → Store → List Change → List Store
-boxes_from true store changes = []
-boxes_from false store changes = store ∷ later store changes

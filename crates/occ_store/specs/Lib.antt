@@ -1,4 +1,6 @@
+-- What the contracts of the public functions lead to.
 pub mod Places
 pub mod Stores
 pub mod Boxes
-pub mod Parts
+-- Means of proof, which only private functions and fields cite.
+pub mod steps

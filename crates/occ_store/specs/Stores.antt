@@ -1,5 +1,6 @@
 -- Stores, which give each choice a domain, and the valuations in them.
-use Rattle.std.specs.Prelude.{◌≡◌, ⊤, ◌↔◌, ℕ, ◌*◌, ◌<◌, true, false, Some, slice_get, set, List, [], ◌∷◌, map, length, ℤ, ◌≤ℤ◌, Contains}
+use Rattle.std.specs.Prelude.{◌≡◌, ⊤, ◌↔◌, ℕ, ◌*◌, ◌<◌, true, false, Some, slice_get, set, List, [], ◌∷◌, map, take, length, ℤ, ◌≤ℤ◌, Contains}
+use Rattle.std.specs.List.{list_all}
 use Rattle.eb_value.specs.declared.scope.Scope.{Scope}
 use Rattle.eb_value.specs.declared.value.Value.{Value}
 use Rattle.eb_value.specs.Types.{integer}
@@ -52,10 +53,11 @@ HaveIntegers (c ∷ cs) = (c.ty ≡ integer) × HaveIntegers cs
 abbrev pub single_values : Store → List Value
 single_values store = map (λ d. int d.lo) store
 
--- the choice's domain hasn't one value
+-- the first choice whose domain hasn't one value, with its domain
 pub record IsLoose (store : Store) (loose : ℕ × Interval) : Type 0 where
   pub domain : slice_get store loose.0 ≡ Some loose.1
   pub several : is_single loose.1 ≡ false
+  pub first : list_all is_single (take loose.0 store) ≡ true
 
 -- the parts of the choice's domain by the number, of which none is empty
 pub record AreParts (store : Store) (choice : ℕ) (n : ℤ) (parts : Interval × Interval) : Type 0 where

@@ -1,4 +1,4 @@
-ghost use Rattle.std.specs.Prelude.{◌≡◌, [], ◌∷◌, OnOk, MatchOption, List};
+ghost use Rattle.std.specs.Prelude.{◌≡◌, [], ◌∷◌, OnOk, OnErr, MatchOption, List};
 ghost use Rattle.occ_store.specs.Boxes as spec;
 
 use crate::store::Store;
@@ -30,7 +30,7 @@ pub struct Boxes {
 impl Model for Boxes {
     ghost use Rattle.std.specs.Prelude.{List, reverse};
     ghost use Rattle.occ_store.specs.Stores.{Store};
-    ghost use Rattle.occ_store.specs.Boxes.{boxes_from};
+    ghost use Rattle.occ_store.specs.steps.Changes.{boxes_from};
 
     ghost Value = { List Store };
 
@@ -72,22 +72,24 @@ impl Boxes {
     }
 
     /// Puts two boxes in the first one's place, in which the choice has these domains. The only error
-    /// is want of memory.
+    /// is want of memory, and then the boxes stay as they were.
     pub fn split(&mut self, choice: u32, low: Interval, high: Interval) -> Result<(), AllocError>
         requires there { spec.HasChoice self.old choice }
-        ensures { OnOk result (self.new ≡ spec.split_first choice low high self.old) }
+        ensures split { OnOk result (self.new ≡ spec.split_first choice low high self.old) }
+        ensures unchanged { OnErr result (self.new ≡ self.old) }
     {
         if let Some(before) = self.store.domain(choice) {
-            self.changes.push(Change {
+            let back = Change {
                 choice,
                 domain: before,
                 is_box: false,
-            })?;
-            self.changes.push(Change {
+            };
+            let second = Change {
                 choice,
                 domain: high,
                 is_box: true,
-            })?;
+            };
+            self.changes.extend_from_slice(&[back, second])?;
             self.store.put(choice, low);
         }
         Ok(())

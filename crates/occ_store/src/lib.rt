@@ -9,6 +9,3 @@ mod store;
 pub use boxes::Boxes;
 pub use laws::first_stores_have_the_valuations;
 pub use store::Store;
-
-#[cfg(test)]
-mod tests;

@@ -3,10 +3,10 @@ ghost use Rattle.std.specs.List.{list_all};
 ghost use Rattle.int_dom.specs.Intervals as interval;
 ghost use Rattle.occ_store.specs.Places.{has_at};
 ghost use Rattle.occ_store.specs.Stores as spec;
-ghost use Rattle.occ_store.specs.Parts.{both};
+ghost use Rattle.occ_store.specs.steps.Parts.{both};
 
 use eb_term::Choice;
-use eb_value::{Scope, Value, Values};
+use eb_value::{Scope, Value, Values, integers_lie_within_bounds};
 use int_dom::Interval;
 use std::alloc::{AllocError, Global};
 use std::marker::Model;
@@ -66,6 +66,7 @@ impl Store {
         requires integers { spec.HaveIntegers choices.now }
         ensures { IfOk result (spec.IsFirst scope.now choices.now) }
     {
+        integers_lie_within_bounds();
         let domains = wholes(alloc, choices, scope)?;
         Ok(Store { domains })
     }

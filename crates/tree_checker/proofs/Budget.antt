@@ -12,9 +12,14 @@ use Rattle.tree_form.specs.declared.line.Line.{Line}
 use Rattle.tree_form.specs.declared.line.Line.TheVariants.{Split as split, Open as leave}
 use Rattle.occ_store.specs.Places.{has_at, changed_at}
 use Rattle.occ_store.specs.Stores.{Store, volume}
-use Rattle.occ_store.proofs.FirstStores.{gap_is}
 use Rattle.tree_checker.specs.Trees.{Tree, leaf, one, two, Holds, lines_of, splits_of, opens, OpensAreLoose}
 use Rattle.tree_checker.proofs.Sound.{opens_append}
+
+gap_is : (a b : ℤ) → a ≤ℤ b → a +ℤ pos (int_gap a b) ≡ b
+gap_is (pos a) (pos b) h = omega (arith, ints)
+gap_is (pos a) (negsuc b) h = omega (arith, ints)
+gap_is (negsuc a) (pos b) h = omega (arith, ints)
+gap_is (negsuc a) (negsuc b) h = omega (arith, ints)
 
 pub two_parts : (a b : Bool) → not a && not b ≡ true → (a ≡ false) × (b ≡ false)
 two_parts false false e = (refl, refl)

@@ -1,13 +1,11 @@
 -- A text is its first line and the text after it.
 use Rattle.std.proofs.Common.{◌≡◌, ℕ, suc, ◌+◌, ◌<◌, List, [], ◌∷◌, length, take, drop, not, ◌≤◌, Bool, true, false, cond, ◌==◌, Option, Some, None, ap, refl, ◌-◌, drop-drop, take_all, length-drop, ◌∙◌, arith}
 use Rattle.std.specs.List.{prefix_len}
-use Rattle.eb_term.specs.declared.problem.Problem.{Problem}
-use Rattle.tree_form.specs.Reading.{reading}
 use Rattle.tree_checker.specs.declared.verdict.Cause.{Cause}
 use Rattle.tree_checker.specs.declared.verdict.Verdict.TheVariants.{Refused as refused}
 use Rattle.tree_checker.specs.Trees.{Task}
-use Rattle.tree_checker.specs.Verdicts.{State, fault}
-use Rattle.tree_checker.specs.Machine.{lines_and_rest, with_byte, first_line, onto_line, text_rest, is_some_byte, next_place, at_end}
+use Rattle.tree_checker.specs.Verdicts.{State, Reading, fault}
+use Rattle.tree_checker.specs.steps.Machine.{lines_and_rest, with_byte, first_line, onto_line, text_rest, is_some_byte, next_place, at_end}
 
 -- with a first line
 some_byte : (b : ℕ) (bytes line more : List ℕ) (is : Bool) (f : Option (List ℕ × List ℕ)) → ((l m : List ℕ) → f ≡ Some (l, m) → lines_and_rest bytes ≡ (l ∷ (lines_and_rest m).0, (lines_and_rest m).1)) →
@@ -66,20 +64,20 @@ cut_nowhere [] n e h = refl
 cut_nowhere (b ∷ bytes) n e h = nowhere (b == 10) b bytes (prefix_len (λ b. not (b == 10)) bytes) n (λ m. cut_nowhere bytes (prefix_len (λ b. not (b == 10)) bytes) refl m) e h
 
 -- the verdict from here on
-pub step_text : (problem : Problem) (task : Task) (n : ℕ) (at : State) (rest line more : List ℕ) → first_line rest ≡ Some (line, more) → fault task.facts at (reading problem line) ≡ None
-    → text_rest problem task n at rest ≡ text_rest problem task (n + 1) (next_place task at (reading problem line)) more
-step_text problem task n at rest line more e none =
+pub step_text : (read : List ℕ → Reading) (task : Task) (n : ℕ) (at : State) (rest line more : List ℕ) → first_line rest ≡ Some (line, more) → fault task.facts at (read line) ≡ None
+    → text_rest read task n at rest ≡ text_rest read task (n + 1) (next_place task at (read line)) more
+step_text read task n at rest line more e none =
     let cut = cut_some rest line more e in
     let a : n + suc (length (lines_and_rest more).0) ≡ n + 1 + length (lines_and_rest more).0 = omega arith in
     let b : suc n ≡ n + 1 = omega arith in
     rw (cut, none, a, b) refl
 
-pub stop_text : (problem : Problem) (task : Task) (n : ℕ) (at : State) (rest line more : List ℕ) (cause : Cause) → first_line rest ≡ Some (line, more) → fault task.facts at (reading problem line) ≡ Some cause
-    → text_rest problem task n at rest ≡ refused n cause
-stop_text problem task n at rest line more cause e is = rw (cut_some rest line more e, is) refl
+pub stop_text : (read : List ℕ → Reading) (task : Task) (n : ℕ) (at : State) (rest line more : List ℕ) (cause : Cause) → first_line rest ≡ Some (line, more) → fault task.facts at (read line) ≡ Some cause
+    → text_rest read task n at rest ≡ refused n cause
+stop_text read task n at rest line more cause e is = rw (cut_some rest line more e, is) refl
 
-pub end_text : (problem : Problem) (task : Task) (n : ℕ) (at : State) (rest : List ℕ) → first_line rest ≡ None → text_rest problem task n at rest ≡ at_end at n (is_some_byte rest)
-end_text problem task n at rest e = rw (cut_none rest e) (ap (λ k. at_end at k (is_some_byte rest)) (omega arith))
+pub end_text : (read : List ℕ → Reading) (task : Task) (n : ℕ) (at : State) (rest : List ℕ) → first_line rest ≡ None → text_rest read task n at rest ≡ at_end at n (is_some_byte rest)
+end_text read task n at rest e = rw (cut_none rest e) (ap (λ k. at_end at k (is_some_byte rest)) (omega arith))
 
 pub tail_is : (text back : List ℕ) (n : ℕ) → back ≡ drop n text → take (length back - 1) (drop 1 back) ≡ drop (n + 1) text
 tail_is text back n e = let d : drop 1 (drop n text) ≡ drop (n + 1) text = drop-drop 1 n text in

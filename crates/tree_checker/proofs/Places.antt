@@ -7,7 +7,7 @@ use Rattle.tree_form.specs.declared.line.Line.TheVariants.{Header as header, Beg
 use Rattle.occ_store.specs.Stores.{Store}
 use Rattle.tree_checker.specs.Trees.{Task, Fits, parts_of, is_header, is_open, opens}
 use Rattle.tree_checker.specs.Verdicts.{State, heading, within, ended, Reading, fault, LeadsTo, IsInTree, IsPlace}
-use Rattle.tree_checker.specs.Machine.{next, after}
+use Rattle.tree_checker.specs.steps.Machine.{next, after}
 use Rattle.tree_checker.proofs.Steps.{no_fault, fits_there}
 use Rattle.tree_checker.proofs.Runs.{read_as, no_fault_first}
 

@@ -5,7 +5,7 @@ use Rattle.tree_form.specs.declared.line.Line.{Line}
 use Rattle.tree_checker.specs.declared.verdict.Cause.{Cause}
 use Rattle.tree_checker.specs.Trees.{Task, IsWhole, IsViable}
 use Rattle.tree_checker.specs.Verdicts.{State, heading, within, ended, Reading, fault}
-use Rattle.tree_checker.specs.Machine.{next, next_place, after, or_fault}
+use Rattle.tree_checker.specs.steps.Machine.{next, next_place, after, or_fault}
 use Rattle.tree_checker.proofs.Steps.{Finishes, line_in, line_out, finished, fault_faults}
 
 -- texts that are read as these lines

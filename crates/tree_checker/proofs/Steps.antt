@@ -9,7 +9,7 @@ use Rattle.tree_form.specs.declared.line.LineFault.TheVariants.{BadLine, NoSuchO
 use Rattle.occ_store.specs.Stores.{Store}
 use Rattle.tree_checker.specs.Trees.{Task, Fits, Tree, leaf, Holds, lines_of, is_header, opens, IsWhole}
 use Rattle.tree_checker.specs.Verdicts.{State, heading, within, ended, fault}
-use Rattle.tree_checker.specs.Machine.{next}
+use Rattle.tree_checker.specs.steps.Machine.{next}
 use Rattle.tree_checker.proofs.Forests.{Forest, some_line, step_in, step_out, leaves}
 
 -- what finishes the text from this state, with this number of open lines in the whole text

@@ -15,8 +15,6 @@ use Rattle.tree_form.specs.declared.line.Line.{Line}
 use Rattle.tree_form.specs.declared.line.Line.TheVariants.{Header as header, Begin as begin, Split as split, Clash as clash, Eval as eval, Open as leave, End as finish}
 use Rattle.occ_store.specs.Places.{has_at, changed_at}
 use Rattle.tree_form.specs.Lines.{IsLine, IsReading, is_there, fits_type, has_integers, is_integer_shape}
-use Rattle.tree_form.specs.Reading.{reading}
-use Rattle.tree_form.proofs.LineLaws.{reading_is, reading_only}
 use Rattle.tree_checker.specs.declared.verdict.Cause.{Cause}
 use Rattle.tree_checker.specs.declared.verdict.Cause.TheVariants.{Unfinished, AfterEnd}
 use Rattle.tree_checker.specs.declared.verdict.Verdict.TheVariants.{Refused as refused}
@@ -24,7 +22,7 @@ use Rattle.occ_store.specs.Stores.{Store, HaveIntegers}
 use Rattle.tree_checker.specs.Trees.{Task, Tree, leaf, one, two, Fits, parts_of, Holds, lines_of, is_header, IsWhole, IsViable}
 use Rattle.tree_checker.specs.Verdicts.{State, heading, within, ended, Reading, fault}
 use Rattle.tree_checker.specs.Texts.{joined, is_one_line, IsText, AreLines, IsWholeText, IsViableText, IsVerdictFor}
-use Rattle.tree_checker.specs.Machine.{after, at_end, verdict_from, with_byte, lines_and_rest, is_some_byte, readings, text_rest}
+use Rattle.tree_checker.specs.steps.Machine.{Reader, after, at_end, verdict_from, with_byte, lines_and_rest, is_some_byte, readings, text_rest}
 use Rattle.tree_checker.proofs.Forests.{leaves}
 use Rattle.tree_checker.proofs.Steps.{finished}
 use Rattle.tree_checker.proofs.Runs.{read_as, are_lines, after_whole, whole_after, runs_out, stops, not_viable}
@@ -181,22 +179,22 @@ whole_suits problem task lines count s w =
     ((refl, refl), suit_append problem (lines_of w.tree) (finish ∷ []) (tree_suits problem w.tree task.first s.integers s.count holds) ((refl, refl), tt)))
 
 -- texts that are those of lines are read as these
-read_lines : (problem : Problem) (texts : List (List ℕ)) (lines : List Line) → AreLines texts lines → AllSuit problem lines → readings problem texts ≡ read_as lines
-read_lines problem [] [] are suit = refl
-read_lines problem [] (line ∷ lines) are suit = absurd are
-read_lines problem (text ∷ texts) [] are suit = absurd are
-read_lines problem (text ∷ texts) (line ∷ lines) are suit =
-    ap₂ (λ x xs. x ∷ xs) (reading_only problem text (Ok line) (are.0, suit.0.0, suit.0.1)) (read_lines problem texts lines are.1 suit.1)
+read_lines : (problem : Problem) (reader : Reader problem) (texts : List (List ℕ)) (lines : List Line) → AreLines texts lines → AllSuit problem lines → readings reader.read texts ≡ read_as lines
+read_lines problem reader [] [] are suit = refl
+read_lines problem reader [] (line ∷ lines) are suit = absurd are
+read_lines problem reader (text ∷ texts) [] are suit = absurd are
+read_lines problem reader (text ∷ texts) (line ∷ lines) are suit =
+    ap₂ (λ x xs. x ∷ xs) (reader.only text (Ok line) (are.0, suit.0.0, suit.0.1)) (read_lines problem reader texts lines are.1 suit.1)
 
 -- and texts that are read as lines are those of these
-lines_read : (problem : Problem) (texts : List (List ℕ)) (lines : List Line) → readings problem texts ≡ read_as lines → AreLines texts lines
-lines_read problem [] [] e = tt
-lines_read problem [] (line ∷ lines) e = absurd (cc)
-lines_read problem (text ∷ texts) [] e = absurd (cc)
-lines_read problem (text ∷ texts) (line ∷ lines) e =
-    let here : reading problem text ≡ Ok line = cc in
-    let later : readings problem texts ≡ read_as lines = cc in
-    ((subst (IsReading problem text) here (reading_is problem text)).0, lines_read problem texts lines later)
+lines_read : (problem : Problem) (reader : Reader problem) (texts : List (List ℕ)) (lines : List Line) → readings reader.read texts ≡ read_as lines → AreLines texts lines
+lines_read problem reader [] [] e = tt
+lines_read problem reader [] (line ∷ lines) e = absurd (cc)
+lines_read problem reader (text ∷ texts) [] e = absurd (cc)
+lines_read problem reader (text ∷ texts) (line ∷ lines) e =
+    let here : reader.read text ≡ Ok line = cc in
+    let later : readings reader.read texts ≡ read_as lines = cc in
+    ((subst (IsReading problem text) here (reader.is text)).0, lines_read problem reader texts lines later)
 
 are_front : (texts more : List (List ℕ)) (lines : List Line) → AreLines (texts ++ more) lines → (front back : List Line) × (lines ≡ front ++ back) × AreLines texts front
 are_front [] more lines are = ([], lines, refl, tt)
@@ -212,27 +210,27 @@ are_append (text ∷ texts) more [] rest are others = absurd are
 are_append (text ∷ texts) more (line ∷ lines) rest are others = (are.0, are_append texts more lines rest are.1 others)
 
 -- whole as text and as lines
-pub record WholeLines (problem : Problem) (task : Task) (texts : List (List ℕ)) (rest : List ℕ) (count : ℕ) : Type 0 where
+pub record WholeLines (problem : Problem) (reader : Reader problem) (task : Task) (texts : List (List ℕ)) (rest : List ℕ) (count : ℕ) : Type 0 where
   pub uncut : rest ≡ []
   pub lines : List Line
-  pub read : readings problem texts ≡ read_as lines
+  pub read : readings reader.read texts ≡ read_as lines
   pub whole : IsWhole task lines count
 
-pub whole_in : (problem : Problem) (task : Task) (text : List ℕ) (texts : List (List ℕ)) (rest : List ℕ) (count : ℕ) → IsSuited problem task → IsText text texts rest → IsWholeText task text count → WholeLines problem task texts rest count
-whole_in problem task text texts rest count s t w =
+pub whole_in : (problem : Problem) (reader : Reader problem) (task : Task) (text : List ℕ) (texts : List (List ℕ)) (rest : List ℕ) (count : ℕ) → IsSuited problem task → IsText text texts rest → IsWholeText task text count → WholeLines problem reader task texts rest count
+whole_in problem reader task text texts rest count s t w =
     let same : (w.texts ≡ texts) × ([] ≡ rest) = same_text w.texts texts [] rest w.each t.each refl t.last (append-nil (joined w.texts) ∙ sym w.joins ∙ t.whole) in
     record {
       uncut = sym same.1;
       lines = w.lines;
-      read = read_lines problem texts w.lines (subst (λ x. AreLines x w.lines) same.0 w.are_lines) (whole_suits problem task w.lines count s w.whole);
+      read = read_lines problem reader texts w.lines (subst (λ x. AreLines x w.lines) same.0 w.are_lines) (whole_suits problem task w.lines count s w.whole);
       whole = w.whole;
     }
 
 joins : (text : List ℕ) (texts : List (List ℕ)) (rest : List ℕ) → IsText text texts rest → rest ≡ [] → text ≡ joined texts
 joins text texts rest t none = t.whole ∙ ap (λ x. joined texts ++ x) none ∙ append-nil (joined texts)
 
-whole_out : (problem : Problem) (task : Task) (text : List ℕ) (texts : List (List ℕ)) (rest : List ℕ) (lines : List Line) (count : ℕ) → IsText text texts rest → rest ≡ [] → readings problem texts ≡ read_as lines → IsWhole task lines count → IsWholeText task text count
-whole_out problem task text texts rest lines count t none read w = record { texts = texts; each = t.each; joins = joins text texts rest t none; lines = lines; are_lines = lines_read problem texts lines read; whole = w }
+whole_out : (problem : Problem) (reader : Reader problem) (task : Task) (text : List ℕ) (texts : List (List ℕ)) (rest : List ℕ) (lines : List Line) (count : ℕ) → IsText text texts rest → rest ≡ [] → readings reader.read texts ≡ read_as lines → IsWhole task lines count → IsWholeText task text count
+whole_out problem reader task text texts rest lines count t none read w = record { texts = texts; each = t.each; joins = joins text texts rest t none; lines = lines; are_lines = lines_read problem reader texts lines read; whole = w }
 
 pub joined_text : (texts : List (List ℕ)) → list_all is_one_line texts ≡ true → IsText (joined texts) texts []
 joined_text texts each = record { whole = sym (append-nil (joined texts)); each = each; last = refl }
@@ -246,13 +244,13 @@ map_append f [] ys = refl
 map_append f (x ∷ xs) ys = ap (λ z. f x ∷ z) (map_append f xs ys)
 
 -- viable as text and as lines
-pub viable_in : (problem : Problem) (task : Task) (texts : List (List ℕ)) → IsSuited problem task → list_all is_one_line texts ≡ true → IsViableText task texts → (lines : List Line) × (readings problem texts ≡ read_as lines) × IsViable task lines × AreLines texts lines
-viable_in problem task texts s each (more, count, w) =
+pub viable_in : (problem : Problem) (reader : Reader problem) (task : Task) (texts : List (List ℕ)) → IsSuited problem task → list_all is_one_line texts ≡ true → IsViableText task texts → (lines : List Line) × (readings reader.read texts ≡ read_as lines) × IsViable task lines × AreLines texts lines
+viable_in problem reader task texts s each (more, count, w) =
     let b = begins_with texts w.texts more each w.each w.joins in
     let f = are_front texts b.0 w.lines (subst (λ x. AreLines x w.lines) b.1 w.are_lines) in
     let whole : IsWhole task (f.0 ++ f.1) count = subst (λ x. IsWhole task x count) f.2 w.whole in
     let suit = suit_front problem f.0 f.1 (whole_suits problem task (f.0 ++ f.1) count s whole) in
-    (f.0, read_lines problem texts f.0 f.3 suit, (f.1, count, whole), f.3) where
+    (f.0, read_lines problem reader texts f.0 f.3 suit, (f.1, count, whole), f.3) where
       suit_front : (problem : Problem) (xs ys : List Line) → AllSuit problem (xs ++ ys) → AllSuit problem xs
       suit_front problem [] ys h = tt
       suit_front problem (x ∷ xs) ys h = (h.0, suit_front problem xs ys h.1)
@@ -278,8 +276,8 @@ finished_written task heading = one_written (codes "tree 1") begin (leave ∷ fi
 finished_written task (within stores k) = leaves_written task.facts stores
 finished_written task (ended k) = record { texts = []; each = refl; are_lines = tt }
 
-viable_out : (problem : Problem) (task : Task) (texts : List (List ℕ)) (lines : List Line) (st : State) → list_all is_one_line texts ≡ true → readings problem texts ≡ read_as lines → after task 1 heading (read_as lines) ≡ Ok st → IsViableText task texts
-viable_out problem task texts lines st each read come =
+viable_out : (problem : Problem) (reader : Reader problem) (task : Task) (texts : List (List ℕ)) (lines : List Line) (st : State) → list_all is_one_line texts ≡ true → readings reader.read texts ≡ read_as lines → after task 1 heading (read_as lines) ≡ Ok st → IsViableText task texts
+viable_out problem reader task texts lines st each read come =
     let end = finished task st in
     let w = finished_written task st in (
       joined w.texts,
@@ -289,27 +287,27 @@ viable_out problem task texts lines st each read come =
         each = list_all-append is_one_line texts w.texts ∙ ap (λ x. x && list_all is_one_line w.texts) each ∙ w.each;
         joins = sym (joined_append texts w.texts);
         lines = lines ++ end.0;
-        are_lines = are_append texts w.texts lines end.0 (lines_read problem texts lines read) w.are_lines;
+        are_lines = are_append texts w.texts lines end.0 (lines_read problem reader texts lines read) w.are_lines;
         whole = runs_out task lines end.0 end.1 1 heading st come end.2;
       },
     )
 
 -- a list of readings that falls into parts comes from texts that do
-record Pieces (problem : Problem) (texts : List (List ℕ)) (before : List Reading) (r : Reading) : Type 0 where
+record Pieces (problem : Problem) (reader : Reader problem) (texts : List (List ℕ)) (before : List Reading) (r : Reading) : Type 0 where
   front : List (List ℕ)
   middle : List ℕ
   back : List (List ℕ)
   whole : texts ≡ front ++ (middle ∷ back)
-  front_is : readings problem front ≡ before
-  middle_is : reading problem middle ≡ r
+  front_is : readings reader.read front ≡ before
+  middle_is : reader.read middle ≡ r
 
-pieces : (problem : Problem) (texts : List (List ℕ)) (before : List Reading) (r : Reading) (rest : List Reading) → readings problem texts ≡ before ++ (r ∷ rest) → Pieces problem texts before r
-pieces problem [] [] r rest e = absurd (cc)
-pieces problem [] (b ∷ before) r rest e = absurd (cc)
-pieces problem (l ∷ texts) [] r rest e = record { front = []; middle = l; back = texts; whole = refl; front_is = refl; middle_is = cc }
-pieces problem (l ∷ texts) (b ∷ before) r rest e =
-    let p = pieces problem texts before r rest (cc) in
-    let here : reading problem l ≡ b = cc in
+pieces : (problem : Problem) (reader : Reader problem) (texts : List (List ℕ)) (before : List Reading) (r : Reading) (rest : List Reading) → readings reader.read texts ≡ before ++ (r ∷ rest) → Pieces problem reader texts before r
+pieces problem reader [] [] r rest e = absurd (cc)
+pieces problem reader [] (b ∷ before) r rest e = absurd (cc)
+pieces problem reader (l ∷ texts) [] r rest e = record { front = []; middle = l; back = texts; whole = refl; front_is = refl; middle_is = cc }
+pieces problem reader (l ∷ texts) (b ∷ before) r rest e =
+    let p = pieces problem reader texts before r rest (cc) in
+    let here : reader.read l ≡ b = cc in
     record { front = l ∷ p.front; middle = p.middle; back = p.back; whole = ap (λ x. l ∷ x) p.whole; front_is = ap₂ (λ x xs. x ∷ xs) here p.front_is; middle_is = p.middle_is }
 
 pub each_front : (xs ys : List (List ℕ)) → list_all is_one_line (xs ++ ys) ≡ true → (list_all is_one_line xs ≡ true) × (list_all is_one_line ys ≡ true)
@@ -324,63 +322,63 @@ no_byte [] e = refl
 no_byte (b ∷ rest) e = absurd (cc)
 
 -- lines without a fault, that don't end
-short : (problem : Problem) (task : Task) (text : List ℕ) (texts : List (List ℕ)) (rest : List ℕ) (lines : List Line) (st : State) → IsSuited problem task → IsText text texts rest → readings problem texts ≡ read_as lines → after task 1 heading (read_as lines) ≡ Ok st
+short : (problem : Problem) (reader : Reader problem) (task : Task) (text : List ℕ) (texts : List (List ℕ)) (rest : List ℕ) (lines : List Line) (st : State) → IsSuited problem task → IsText text texts rest → readings reader.read texts ≡ read_as lines → after task 1 heading (read_as lines) ≡ Ok st
     → ((k : ℕ) → st ≡ ended k → ⊥) → IsVerdictFor problem task text (refused (1 + length texts) Unfinished)
-short problem task text texts rest lines st s t read come open_still = (
+short problem reader task text texts rest lines st s t read come open_still = (
   texts,
   rest,
   t,
   inr (
     omega arith,
     record {
-      viable = viable_out problem task texts lines st t.each read come;
-      ends = inr ((λ k whole. not_ended k (whole_in problem task (joined texts) texts [] k s (joined_text texts t.each) whole)), refl);
+      viable = viable_out problem reader task texts lines st t.each read come;
+      ends = inr ((λ k whole. not_ended k (whole_in problem reader task (joined texts) texts [] k s (joined_text texts t.each) whole)), refl);
     },
   ),
 ) where
-  not_ended : (k : ℕ) → WholeLines problem task texts [] k → ⊥
+  not_ended : (k : ℕ) → WholeLines problem reader task texts [] k → ⊥
   not_ended k w =
-      let end : after task 1 heading (readings problem texts) ≡ Ok (ended k) = ap (after task 1 heading) w.read ∙ after_whole task w.lines k w.whole in
-      let here : after task 1 heading (readings problem texts) ≡ Ok st = ap (after task 1 heading) read ∙ come in
+      let end : after task 1 heading (readings reader.read texts) ≡ Ok (ended k) = ap (after task 1 heading) w.read ∙ after_whole task w.lines k w.whole in
+      let here : after task 1 heading (readings reader.read texts) ≡ Ok st = ap (after task 1 heading) read ∙ come in
       let both : Ok st ≡ Ok (ended k) = sym here ∙ end in
       open_still k (cc)
 
 -- the text goes on after its end, within a line
-cut_end : (problem : Problem) (task : Task) (text : List ℕ) (texts : List (List ℕ)) (rest : List ℕ) (lines : List Line) (k : ℕ) → IsText text texts rest → is_some_byte rest ≡ true → readings problem texts ≡ read_as lines → after task 1 heading (read_as lines) ≡ Ok (ended k)
+cut_end : (problem : Problem) (reader : Reader problem) (task : Task) (text : List ℕ) (texts : List (List ℕ)) (rest : List ℕ) (lines : List Line) (k : ℕ) → IsText text texts rest → is_some_byte rest ≡ true → readings reader.read texts ≡ read_as lines → after task 1 heading (read_as lines) ≡ Ok (ended k)
     → IsVerdictFor problem task text (refused (1 + length texts) AfterEnd)
-cut_end problem task text texts rest lines k t cut read come = (
+cut_end problem reader task text texts rest lines k t cut read come = (
   texts,
   rest,
   t,
   inr (
     omega arith,
     record {
-      viable = viable_out problem task texts lines (ended k) t.each read come;
-      ends = inl (k, whole_out problem task (joined texts) texts [] lines k (joined_text texts t.each) refl read (whole_after task lines k come), some_byte rest cut, refl);
+      viable = viable_out problem reader task texts lines (ended k) t.each read come;
+      ends = inl (k, whole_out problem reader task (joined texts) texts [] lines k (joined_text texts t.each) refl read (whole_after task lines k come), some_byte rest cut, refl);
     },
   ),
 )
 
-at_end_by : (problem : Problem) (task : Task) (text : List ℕ) (texts : List (List ℕ)) (rest : List ℕ) (lines : List Line) (st : State) (cut : Bool) → IsSuited problem task → IsText text texts rest → is_some_byte rest ≡ cut → readings problem texts ≡ read_as lines → after task 1 heading (read_as lines) ≡ Ok st
+at_end_by : (problem : Problem) (reader : Reader problem) (task : Task) (text : List ℕ) (texts : List (List ℕ)) (rest : List ℕ) (lines : List Line) (st : State) (cut : Bool) → IsSuited problem task → IsText text texts rest → is_some_byte rest ≡ cut → readings reader.read texts ≡ read_as lines → after task 1 heading (read_as lines) ≡ Ok st
     → IsVerdictFor problem task text (at_end st (1 + length texts) cut)
-at_end_by problem task text texts rest lines (ended zero) false s t e read come = whole_out problem task text texts rest lines 0 t (no_byte rest e) read (whole_after task lines 0 come)
-at_end_by problem task text texts rest lines (ended (suc k)) false s t e read come = (omega arith, whole_out problem task text texts rest lines (suc k) t (no_byte rest e) read (whole_after task lines (suc k) come))
-at_end_by problem task text texts rest lines (ended zero) true s t e read come = cut_end problem task text texts rest lines zero t e read come
-at_end_by problem task text texts rest lines (ended (suc k)) true s t e read come = cut_end problem task text texts rest lines (suc k) t e read come
-at_end_by problem task text texts rest lines heading cut s t e read come = short problem task text texts rest lines heading s t read come (λ k same. cc)
-at_end_by problem task text texts rest lines (within stores k) cut s t e read come = short problem task text texts rest lines (within stores k) s t read come (λ j same. cc)
+at_end_by problem reader task text texts rest lines (ended zero) false s t e read come = whole_out problem reader task text texts rest lines 0 t (no_byte rest e) read (whole_after task lines 0 come)
+at_end_by problem reader task text texts rest lines (ended (suc k)) false s t e read come = (omega arith, whole_out problem reader task text texts rest lines (suc k) t (no_byte rest e) read (whole_after task lines (suc k) come))
+at_end_by problem reader task text texts rest lines (ended zero) true s t e read come = cut_end problem reader task text texts rest lines zero t e read come
+at_end_by problem reader task text texts rest lines (ended (suc k)) true s t e read come = cut_end problem reader task text texts rest lines (suc k) t e read come
+at_end_by problem reader task text texts rest lines heading cut s t e read come = short problem reader task text texts rest lines heading s t read come (λ k same. cc)
+at_end_by problem reader task text texts rest lines (within stores k) cut s t e read come = short problem reader task text texts rest lines (within stores k) s t read come (λ j same. cc)
 
 -- the first line at fault
-at_fault : (problem : Problem) (task : Task) (text : List ℕ) (texts : List (List ℕ)) (rest : List ℕ) (n : ℕ) (cause : Cause) → IsSuited problem task → IsText text texts rest → after task 1 heading (readings problem texts) ≡ Err (n, cause) → IsVerdictFor problem task text (refused n cause)
-at_fault problem task text texts rest n cause s t e =
-    let stop = stops task (readings problem texts) 1 heading n cause e in
-    let p = pieces problem texts stop.before stop.reading stop.rest stop.text in
+at_fault : (problem : Problem) (reader : Reader problem) (task : Task) (text : List ℕ) (texts : List (List ℕ)) (rest : List ℕ) (n : ℕ) (cause : Cause) → IsSuited problem task → IsText text texts rest → after task 1 heading (readings reader.read texts) ≡ Err (n, cause) → IsVerdictFor problem task text (refused n cause)
+at_fault problem reader task text texts rest n cause s t e =
+    let stop = stops task (readings reader.read texts) 1 heading n cause e in
+    let p = pieces problem reader texts stop.before stop.reading stop.rest stop.text in
     let each : list_all is_one_line (p.front ++ (p.middle ∷ p.back)) ≡ true = subst (λ x. list_all is_one_line x ≡ true) p.whole t.each in
     let split_each = each_front p.front (p.middle ∷ p.back) each in
     let before = are_lines task stop.before 1 heading stop.place stop.come in
-    let front : readings problem p.front ≡ read_as before.0 = p.front_is ∙ before.1 in
+    let front : readings reader.read p.front ≡ read_as before.0 = p.front_is ∙ before.1 in
     let come : after task 1 heading (read_as before.0) ≡ Ok stop.place = ap (after task 1 heading) (sym before.1) ∙ stop.come in
-    let count : length stop.before ≡ length p.front = ap length (sym p.front_is) ∙ length-map p.front (reading problem) in (
+    let count : length stop.before ≡ length p.front = ap length (sym p.front_is) ∙ length-map p.front reader.read in (
       texts,
       rest,
       t,
@@ -391,33 +389,33 @@ at_fault problem task text texts rest n cause s t e =
         p.whole,
         (let m = stop.numbered in omega arith),
         record {
-          viable = viable_out problem task p.front before.0 stop.place split_each.0 front come;
+          viable = viable_out problem reader task p.front before.0 stop.place split_each.0 front come;
           none = λ v. none_viable stop.place stop.come stop.is_fault p.front p.middle p.front_is p.middle_is split_each.0 (both _ _ split_each.1).0 v;
           lines = before.0;
-          are_lines = lines_read problem p.front before.0 front;
+          are_lines = lines_read problem reader p.front before.0 front;
           place = stop.place;
           is_place = place_after task before.0 stop.place come;
-          reading = reading problem p.middle;
-          is_reading = reading_is problem p.middle;
+          reading = reader.read p.middle;
+          is_reading = reader.is p.middle;
           is_first = subst (λ x. fault task.facts stop.place x ≡ Some cause) (sym p.middle_is) stop.is_fault;
         },
       ),
     ) where
-      none_viable : {before : List Reading} {r : Reading} (place : State) → after task 1 heading before ≡ Ok place → fault task.facts place r ≡ Some cause → (front : List (List ℕ)) (middle : List ℕ) → readings problem front ≡ before → reading problem middle ≡ r
+      none_viable : {before : List Reading} {r : Reading} (place : State) → after task 1 heading before ≡ Ok place → fault task.facts place r ≡ Some cause → (front : List (List ℕ)) (middle : List ℕ) → readings reader.read front ≡ before → reader.read middle ≡ r
           → list_all is_one_line front ≡ true → is_one_line middle ≡ true → IsViableText task (front ++ (middle ∷ [])) → ⊥
       none_viable {before} {r} place come is front middle front_is middle_is each uncut v =
           let one_each : list_all is_one_line (middle ∷ []) ≡ true = ap (λ x. x && true) uncut in
           let all : list_all is_one_line (front ++ (middle ∷ [])) ≡ true = list_all-append is_one_line front (middle ∷ []) ∙ ap (λ x. x && list_all is_one_line (middle ∷ [])) each ∙ one_each in
-          let w = viable_in problem task (front ++ (middle ∷ [])) s all v in
-          let same : before ++ (r ∷ []) ≡ read_as w.0 = ap₂ (λ x y. x ++ (y ∷ [])) (sym front_is) (sym middle_is) ∙ sym (map_append (reading problem) front (middle ∷ [])) ∙ w.1 in
+          let w = viable_in problem reader task (front ++ (middle ∷ [])) s all v in
+          let same : before ++ (r ∷ []) ≡ read_as w.0 = ap₂ (λ x y. x ++ (y ∷ [])) (sym front_is) (sym middle_is) ∙ sym (map_append reader.read front (middle ∷ [])) ∙ w.1 in
           not_viable task before r place cause w.0 come is same w.2
 
-exact_by : (problem : Problem) (task : Task) (text : List ℕ) (texts : List (List ℕ)) (rest : List ℕ) (r : Result State (ℕ × Cause)) → IsSuited problem task → IsText text texts rest → after task 1 heading (readings problem texts) ≡ r
+exact_by : (problem : Problem) (reader : Reader problem) (task : Task) (text : List ℕ) (texts : List (List ℕ)) (rest : List ℕ) (r : Result State (ℕ × Cause)) → IsSuited problem task → IsText text texts rest → after task 1 heading (readings reader.read texts) ≡ r
     → IsVerdictFor problem task text (verdict_from r (1 + length texts) (is_some_byte rest))
-exact_by problem task text texts rest (Ok st) s t e =
-    let l = are_lines task (readings problem texts) 1 heading st e in
-    at_end_by problem task text texts rest l.0 st (is_some_byte rest) s t refl l.1 (ap (after task 1 heading) (sym l.1) ∙ e)
-exact_by problem task text texts rest (Err (n, cause)) s t e = at_fault problem task text texts rest n cause s t e
+exact_by problem reader task text texts rest (Ok st) s t e =
+    let l = are_lines task (readings reader.read texts) 1 heading st e in
+    at_end_by problem reader task text texts rest l.0 st (is_some_byte rest) s t refl l.1 (ap (after task 1 heading) (sym l.1) ∙ e)
+exact_by problem reader task text texts rest (Err (n, cause)) s t e = at_fault problem reader task text texts rest n cause s t e
 
-pub text_exact : (problem : Problem) (task : Task) (text : List ℕ) → IsSuited problem task → IsVerdictFor problem task text (text_rest problem task 1 heading text)
-text_exact problem task text s = exact_by problem task text (lines_and_rest text).0 (lines_and_rest text).1 (after task 1 heading (readings problem (lines_and_rest text).0)) s (falls text) refl
+pub text_exact : (problem : Problem) (reader : Reader problem) (task : Task) (text : List ℕ) → IsSuited problem task → IsVerdictFor problem task text (text_rest reader.read task 1 heading text)
+text_exact problem reader task text s = exact_by problem reader task text (lines_and_rest text).0 (lines_and_rest text).1 (after task 1 heading (readings reader.read (lines_and_rest text).0)) s (falls text) refl

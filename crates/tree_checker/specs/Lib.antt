@@ -1,5 +1,6 @@
+-- What the contracts of the public functions lead to.
 pub mod Trees
 pub mod Verdicts
 pub mod Texts
-pub mod Machine
-pub mod Checking
+-- Means of proof, which only private functions cite.
+pub mod steps

@@ -1,9 +1,9 @@
 ghost use Rattle.std.specs.Prelude.{◌-◌, ◌≡◌, ◌<◌, ◌≤◌, ◌+◌, ◌^◌, ◌∷◌, [], true, false, None, Ok, IfOk, OnOk, MatchOption};
 ghost use Rattle.tree_checker.specs.Trees.{Task};
 ghost use Rattle.tree_checker.specs.Verdicts as verdicts;
-ghost use Rattle.tree_checker.specs.Machine as spec;
+ghost use Rattle.tree_checker.specs.steps.Machine as spec;
 ghost use Rattle.tree_checker.specs.Texts.{task_of};
-ghost use Rattle.tree_checker.specs.Checking as checking;
+ghost use Rattle.tree_checker.specs.steps.Checking as checking;
 
 use crate::store::is_untrue_at;
 use crate::verdict::{Cause, Verdict};

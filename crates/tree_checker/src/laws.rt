@@ -16,6 +16,7 @@ ghost use Rattle.tree_checker.specs.Texts as texts;
 
 use eb_term::Problem;
 use eb_value::Scope;
+use occ_store::first_stores_have_the_valuations;
 
 /// Where a text, whoever wrote it, is that of a refutation of a problem, no valuation in the scope
 /// makes each fact well-defined and true.
@@ -36,7 +37,9 @@ pub fn splits_are_fewer_than_valuations(scope: &Scope, problem: &Problem)
     ensures opens { (first : stores.Store) → (tree : trees.Tree) → stores.IsFirst scope.now problem.now.choices first
         → trees.Holds problem.now.facts first tree → trees.OpensAreLoose (first ∷ []) (trees.lines_of tree)
         → trees.splits_of (trees.lines_of tree) + trees.opens (trees.lines_of tree) + 1 ≤ stores.valuation_count scope.now problem.now.choices }
-{}
+{
+    first_stores_have_the_valuations();
+}
 
 /// The numbers of a tree that holds lie within -2^62..2^62, where the scope's integers do, and there
 /// are not too many choices and facts. A split's number lies within the scope, since neither part is
@@ -47,7 +50,9 @@ pub fn trees_have_small_numbers()
         → length problem.choices < 2 ^ 32 → length problem.facts ≤ 2 ^ 62
         → stores.IsFirst scope problem.choices first → trees.Holds problem.facts first tree
         → list_all has_small_numbers (trees.lines_of tree) ≡ true }
-{}
+{
+    first_stores_have_the_valuations();
+}
 
 /// Lines that leave no store to be closed are those of a tree that holds, and the other way round.
 pub fn closing_lines_are_trees()

@@ -17,6 +17,3 @@ pub use laws::{
 };
 pub use text::check_text;
 pub use verdict::{Cause, Verdict};
-
-#[cfg(test)]
-mod tests;

@@ -5,15 +5,15 @@ ghost use Rattle.eb_meaning.specs.Problems.{IsSolution};
 ghost use Rattle.tree_checker.specs.declared.verdict.Verdict.{Verdict};
 ghost use Rattle.occ_store.specs.Stores.{HaveIntegers};
 ghost use Rattle.tree_checker.specs.Texts as texts;
-ghost use Rattle.tree_checker.specs.Machine as spec;
+ghost use Rattle.tree_checker.specs.steps.Machine as spec;
 
 use crate::checker::Checker;
 use crate::verdict::Verdict;
 use eb_term::Problem;
 use eb_value::Scope;
-use occ_store::Store;
+use occ_store::{Store, first_stores_have_the_valuations};
 use std::alloc::{AllocError, Global};
-use tree_form::read_line;
+use tree_form::{lines_are_read_back, read_line};
 
 /// The verdict on the text of a tree, whoever wrote it, for a problem whose choices are integers.
 ///
@@ -34,6 +34,8 @@ pub fn check_text(
     ensures only { IfOk result (λ verdict. (other : Verdict) → texts.IsVerdict scope.now problem.now text.now other → verdict ≡ other) }
     ensures sound { IfOk result (λ verdict. verdict ≡ Verdict.Accepted → (values : List Value) → IsSolution scope.now problem.now values → ⊥) }
 {
+    lines_are_read_back();
+    first_stores_have_the_valuations();
     let first = Store::first(alloc, problem.choices.as_slice(), scope)?;
     let verdict = run(alloc, problem, &first, text)?;
     Ok(verdict)
@@ -43,7 +45,8 @@ pub fn check_text(
 fn run(alloc: Global, problem: &Problem, first: &Store, text: &[u8]) -> Result<Verdict, AllocError>
     requires few { length problem.now.choices < 2 ^ 32 }
     requires short { length text.now < 2 ^ 63 }
-    ensures { IfOk result (λ verdict. verdict ≡ spec.text_verdict problem.now first.now text.now) }
+    ensures { IfOk result (λ verdict. (reader : spec.Reader problem.now)
+        → verdict ≡ spec.text_verdict reader.read problem.now first.now text.now) }
 {
     let mut checker = Checker::new(alloc);
     let mut number = 1;

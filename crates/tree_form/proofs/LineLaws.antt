@@ -12,7 +12,7 @@ use Rattle.tree_form.specs.declared.line.Line.TheVariants as line
 use Rattle.tree_form.specs.declared.line.LineFault.{LineFault}
 use Rattle.tree_form.specs.declared.line.LineFault.TheVariants.{BadLine, NoSuchOccurrence, BadTest}
 use Rattle.tree_form.specs.Lines.{line_text, is_header, is_small, has_small_numbers, IsLine, is_there, fits_type, IsReading}
-use Rattle.tree_form.specs.Reading as spec
+use Rattle.tree_form.specs.steps.Reading as spec
 use Rattle.tree_form.proofs.NumberLaws.{both_true, same_bytes, integer_is, integer_printed, natural_is, natural_printed, word_before_space}
 
 -- what follows a prefix

@@ -14,7 +14,7 @@ use Rattle.std.proofs.lemmas.Str.Parse.{digit_at}
 use Rattle.std.proofs.lemmas.Slice.Eq.{bytes_eq-Decides}
 use Rattle.eb_value.specs.Typing.{in_range}
 use Rattle.tree_form.specs.Lines.{is_small}
-use Rattle.tree_form.specs.Reading.{integer_of, natural, natural_of}
+use Rattle.tree_form.specs.steps.Reading.{integer_of, natural, natural_of}
 
 pub both_true : (a b : Bool) → a && b ≡ true → (a ≡ true) × (b ≡ true)
 both_true true b h = (refl, h)

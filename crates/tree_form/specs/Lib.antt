@@ -1,2 +1,4 @@
+-- What the contracts of the public functions lead to.
 pub mod Lines
-pub mod Reading
+-- Means of proof, which only private functions cite.
+pub mod steps

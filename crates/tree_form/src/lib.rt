@@ -8,10 +8,7 @@ mod line;
 mod reader;
 mod writer;
 
-pub use laws::{lines_are_read_back, readings_are_exact};
+pub use laws::lines_are_read_back;
 pub use line::{Line, LineFault};
 pub use reader::read_line;
 pub use writer::line_text;
-
-#[cfg(test)]
-mod tests;

@@ -31,6 +31,6 @@ pub enum LineFault {
     #[error("there is no such choice or fact")]
     NoSuchOccurrence,
     /// The test doesn't fit the type of its choice.
-    #[error("the test does not fit the type")]
+    #[error("the split does not fit the type of its choice")]
     BadTest,
 }

@@ -2,7 +2,7 @@ ghost use Rattle.std.specs.Prelude.{◌≡◌, ◌<◌, ◌^◌, ℤ, Some, not,
 ghost use Rattle.std.specs.List.{prefix_len};
 ghost use Rattle.tree_form.specs.declared.line.Line.TheVariants as line;
 ghost use Rattle.tree_form.specs.Lines as form;
-ghost use Rattle.tree_form.specs.Reading as spec;
+ghost use Rattle.tree_form.specs.steps.Reading as spec;
 
 use crate::line::{Line, LineFault};
 use eb_term::{Choice, Problem};
@@ -15,14 +15,12 @@ use itoa::Buffer;
 /// that the problem hasn't. `BadTest`: the choice is there, and its values aren't integers.
 pub fn read_line(text: &[u8], problem: &Problem) -> Result<Line, LineFault>
     requires { length problem.now.choices < 2 ^ 32 }
-    ensures reading { form.IsReading problem.now text.now result }
-    ensures exact { result ≡ spec.reading problem.now text.now }
+    ensures { form.IsReading problem.now text.now result }
 {
-    let line = read(text, problem);
-    line
+    read(text, problem)
 }
 
-/// What a text is read as, step by step.
+/// What a text is read as, as one equation.
 fn read(text: &[u8], problem: &Problem) -> Result<Line, LineFault>
     requires { length problem.now.choices < 2 ^ 32 }
     ensures { result ≡ spec.reading problem.now text.now }

@@ -3,7 +3,7 @@ ghost use Rattle.std.specs.Fmt.{signed_decimal};
 ghost use Rattle.tree_form.specs.Lines as spec;
 
 use crate::line::Line;
-use eb_value::Bytes;
+use eb_names::Bytes;
 use itoa::Buffer;
 use std::alloc::{AllocError, Global};
 

@@ -8,4 +8,5 @@ pub mod UnifyLaws
 pub mod MarkLaws
 pub mod WrittenLaws
 pub mod SettleLaws
+pub mod DepthLaws
 pub mod SolutionLaws

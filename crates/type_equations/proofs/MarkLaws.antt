@@ -6,7 +6,7 @@ use Rattle.type_equations.specs.declared.marks.Mark.{Mark}
 use Rattle.type_equations.specs.declared.marks.Mark.TheVariants.{Fresh, Begun, Fixed, Loose}
 use Rattle.type_equations.specs.declared.store.Entry.{Entry}
 use Rattle.type_equations.specs.declared.store.Entry.TheVariants as entry
-use Rattle.type_equations.specs.Settling.{mark_at, is_settled, fresh_of, settled_of, total_of, settled_count, pending, or_else, unsettled, both, mark_of, IsOn, Falls}
+use Rattle.type_equations.specs.steps.Settling.{mark_at, is_settled, fresh_of, settled_of, total_of, settled_count, pending, or_else, unsettled, both, mark_of, IsOn, Falls}
 
 pub mark_put_same : (ms : List Mark) (k : ℕ) (m : Mark) → k < length ms → mark_at (set ms k m) k ≡ m
 mark_put_same ms k m h = get_or-set_same ms k m Fresh h

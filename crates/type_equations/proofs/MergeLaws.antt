@@ -7,7 +7,7 @@ use Rattle.eb_value.specs.Types.{product, power}
 use Rattle.type_equations.specs.declared.store.Entry.{Entry}
 use Rattle.type_equations.specs.declared.store.Entry.TheVariants.{Free, Link, Integer, Boolean, Carrier, Product, Power}
 use Rattle.type_equations.specs.Stores.{Fits, is_link, IsPlaced}
-use Rattle.type_equations.specs.Merging.{Pairs, AreSame, PairsBelow, merge, Gives}
+use Rattle.type_equations.specs.steps.Merging.{Pairs, AreSame, PairsBelow, merge, Gives}
 use Rattle.type_equations.proofs.TypeLaws.{kind, kind-integer, kind-boolean, kind-carrier, kind-product, kind-power, product_parts, power_part}
 
 -- no type fits both entries

@@ -4,7 +4,7 @@ use Rattle.eb_value.specs.declared.types.EbType.{EbType}
 use Rattle.type_equations.specs.declared.store.Entry.{Entry}
 use Rattle.type_equations.specs.declared.store.Entry.TheVariants.{Link}
 use Rattle.type_equations.specs.Stores.{entry_at, Fits, Agrees, is_link, IsPlaced, ArePlaced, roots, SaysTheSame, Leads}
-use Rattle.type_equations.specs.Merging.{Pairs, AreSame, PairsBelow, merge, Gives, Steps, Joins}
+use Rattle.type_equations.specs.steps.Merging.{Pairs, AreSame, PairsBelow, merge, Gives, Steps, Joins}
 use Rattle.type_equations.proofs.StoreLaws.{entry_put_same, entry_put_other, fits_along, agrees_put, agrees_back, fits_new, fits_old, placed_put, roots_put, roots_link}
 use Rattle.type_equations.proofs.MergeLaws.{MergedTo, merged_to, same_append, same_parts, below_append}
 

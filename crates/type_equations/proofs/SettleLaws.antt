@@ -8,10 +8,10 @@ use Rattle.type_equations.specs.declared.marks.Mark.{Mark}
 use Rattle.type_equations.specs.declared.marks.Mark.TheVariants.{Fresh, Begun, Fixed, Loose}
 use Rattle.type_equations.specs.declared.store.Entry.{Entry}
 use Rattle.type_equations.specs.declared.store.Entry.TheVariants as entry
-use Rattle.type_equations.specs.Sizes.{weight}
+use Rattle.type_equations.specs.steps.Sizes.{weight}
 use Rattle.type_equations.specs.Stores.{entry_at, Agrees, ArePlaced}
 use Rattle.type_equations.specs.Solutions.{made, type_at}
-use Rattle.type_equations.specs.Settling.{mark_at, is_settled, fresh_of, settled_of, fresh_count, settled_count, unsettled, mark_of, IsStable, IsOn, Knows, IsOnWay, KeepsBegun, Goes, AreSettled, Circular, Settles}
+use Rattle.type_equations.specs.steps.Settling.{mark_at, is_settled, fresh_of, settled_of, fresh_count, settled_count, unsettled, mark_of, IsStable, IsOn, Knows, IsOnWay, KeepsBegun, Goes, AreSettled, Circular, Settles}
 use Rattle.type_equations.proofs.TypeLaws.{integer≢boolean, product_parts, power_part}
 use Rattle.type_equations.proofs.MarkLaws.{OfParts, parts_map, mark_put_same, mark_put_other, total_put, settled_within, settled_one, settled_none, fresh_none, is_fresh, is_known, is_loose, all_settled, one_unsettled, mark_settled, mark_fixed, IsLooseBy, mark_loose, on_push, on_last, on_cases, falls_push, falls_pop, falls_last}
 use Rattle.type_equations.proofs.WrittenLaws.{stable_on, stable_above, stable_made, past_made, made_fits, part_within, part_lighter}
@@ -31,7 +31,7 @@ kept : (ms : List Mark) (p j : ℕ) (m : Mark) → p < length ms → (m ≡ Begu
 kept ms p j m h n (inl e) at = absurd (n (sym at ∙ ap (mark_at (set ms p Begun)) e ∙ mark_put_same ms p Begun h))
 kept ms p j m h n (inr ne) at = sym (mark_put_other ms p j Begun ne) ∙ at
 
-kept_settled : (ms : List Mark) (p j : ℕ) → p < length ms → (j ≡ p) ⊎ (j ≡ p → ⊥) → is_settled (mark_at (set ms p Begun) j) ≡ true → is_settled (mark_at ms j) ≡ true
+pub kept_settled : (ms : List Mark) (p j : ℕ) → p < length ms → (j ≡ p) ⊎ (j ≡ p → ⊥) → is_settled (mark_at (set ms p Begun) j) ≡ true → is_settled (mark_at ms j) ≡ true
 kept_settled ms p j h (inl e) s =
     let no_way : is_settled (mark_at (set ms p Begun) j) ≡ false = ap (λ z. is_settled (mark_at (set ms p Begun) z)) e ∙ ap is_settled (mark_put_same ms p Begun h) in
     absurd (cc)
@@ -150,7 +150,7 @@ top_stable es ms path k j m top (inr ne) s u =
     (more_settled ms k m (is_settled (mark_at ms k)) top.here top.settled refl)
 
 -- the type of the number is made of its parts
-top_made : (es : List Entry) (ms : List Mark) (path : List ℕ) (k : ℕ) (m : Mark) → IsTop es ms path k m → (u : EbType) → type_at u es k ≡ made u (type_at u es) (entry_at es k)
+pub top_made : (es : List Entry) (ms : List Mark) (path : List ℕ) (k : ℕ) (m : Mark) → IsTop es ms path k m → (u : EbType) → type_at u es k ≡ made u (type_at u es) (entry_at es k)
 top_made es ms path k m top u =
     let few = settled_within (set ms k m) in
     stable_made u es (settled_count (set ms k m)) k (stable_top es ms (path ++ (k ∷ [])) k m (is_settled (mark_at ms k)) top.way top.here top.settled top.parts refl u)

@@ -7,12 +7,12 @@ use Rattle.eb_value.specs.Types.{integer, boolean}
 use Rattle.type_equations.specs.declared.equation.Equation.{Equation}
 use Rattle.type_equations.specs.declared.marks.Mark.{Mark}
 use Rattle.type_equations.specs.declared.store.Entry.{Entry}
-use Rattle.type_equations.specs.Sizes.{weight}
+use Rattle.type_equations.specs.steps.Sizes.{weight}
 use Rattle.type_equations.specs.Equations.{types_below, IsOnlySolution, HaveNone, HaveSeveral}
 use Rattle.type_equations.specs.Stores.{SaysTheSame}
 use Rattle.type_equations.specs.Solutions.{type_at, solution_of}
-use Rattle.type_equations.specs.Merging.{Says}
-use Rattle.type_equations.specs.Settling.{AreSettled, AreFixed, IsLoose, Circular}
+use Rattle.type_equations.specs.steps.Merging.{Says}
+use Rattle.type_equations.specs.steps.Settling.{AreSettled, AreFixed, IsLoose, Circular}
 use Rattle.type_equations.proofs.WrittenLaws.{solved_agrees}
 
 -- A part of a number of a solution is there, and weighs less.

@@ -4,7 +4,7 @@ use Rattle.eb_value.specs.declared.types.EbType.{EbType, out-EbType, the_lemmas}
 use Rattle.eb_value.specs.declared.types.Shape.{Shape, Shape-F, out-Shape}
 use Rattle.eb_value.specs.declared.types.Shape.TheOpen as ty
 use Rattle.eb_value.specs.Types.{integer, boolean, carrier, product, power}
-use Rattle.type_equations.specs.Sizes.{size}
+use Rattle.type_equations.specs.steps.Sizes.{size}
 
 abbrev shape_of : EbType → Shape-F Shape EbType
 shape_of t = out-Shape (out-EbType t).shape

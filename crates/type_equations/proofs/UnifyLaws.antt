@@ -7,7 +7,7 @@ use Rattle.type_equations.specs.declared.equation.Equation.{Equation}
 use Rattle.type_equations.specs.declared.store.Entry.{Entry}
 use Rattle.type_equations.specs.Equations.{Holds, Solves, IsBelow, AreBelow, HaveNone}
 use Rattle.type_equations.specs.Stores.{Agrees, ArePlaced}
-use Rattle.type_equations.specs.Merging.{Pairs, PairsBelow, Steps, Joins, Refutes, Unifies, Differ, Says}
+use Rattle.type_equations.specs.steps.Merging.{Pairs, PairsBelow, Steps, Joins, Refutes, Unifies, Differ, Says}
 use Rattle.type_equations.proofs.EquationLaws.{solves_append, solves_parts}
 use Rattle.type_equations.proofs.MergeLaws.{same_append, same_parts, below_parts}
 

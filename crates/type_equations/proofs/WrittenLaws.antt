@@ -5,10 +5,10 @@ use Rattle.eb_value.specs.declared.types.EbType.{EbType}
 use Rattle.eb_value.specs.Types.{integer, product, power}
 use Rattle.type_equations.specs.declared.store.Entry.{Entry}
 use Rattle.type_equations.specs.declared.store.Entry.TheVariants as entry
-use Rattle.type_equations.specs.Sizes.{size, weight}
+use Rattle.type_equations.specs.steps.Sizes.{size, weight}
 use Rattle.type_equations.specs.Stores.{entry_at, Fits, Agrees, IsPlaced}
 use Rattle.type_equations.specs.Solutions.{made, written, type_at, AreSolved}
-use Rattle.type_equations.specs.Settling.{IsStable}
+use Rattle.type_equations.specs.steps.Settling.{IsStable}
 use Rattle.type_equations.proofs.TypeLaws.{size-product, size-power, lighter}
 use Rattle.type_equations.proofs.MarkLaws.{OfParts, parts_map, IsPart}
 

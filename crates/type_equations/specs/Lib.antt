@@ -1,7 +1,6 @@
 pub mod Equations
+pub mod Depths
 pub mod Faults
 pub mod Stores
 pub mod Solutions
-pub mod Sizes
-pub mod Merging
-pub mod Settling
+pub mod steps

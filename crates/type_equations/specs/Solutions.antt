@@ -4,6 +4,7 @@ use Rattle.eb_value.specs.declared.types.EbType.{EbType}
 use Rattle.eb_value.specs.Types as type
 use Rattle.type_equations.specs.declared.store.Entry.{Entry}
 use Rattle.type_equations.specs.declared.store.Entry.TheVariants.{Free, Link, Integer, Boolean, Carrier, Product, Power}
+use Rattle.type_equations.specs.Depths.{AreShallow}
 use Rattle.type_equations.specs.Equations.{types_below}
 use Rattle.type_equations.specs.Stores.{entry_at, ArePlaced}
 
@@ -40,3 +41,4 @@ pub record IsSolution (entries : List Entry) (asked : ℕ) : Type 0 where
   pub placed : ArePlaced entries
   pub solved : AreSolved type.integer entries
   pub within : asked ≤ length entries
+  pub shallow : AreShallow (solution_of entries asked)

@@ -13,7 +13,7 @@ pub enum SolveFault {
     /// Several solutions differ in the types that are asked for.
     #[error("several types solve the equations")]
     Open,
-    /// Memory ran out.
+    /// Memory ran out, or a type that is asked for is more than 1,000 deep.
     #[error("memory ran out")]
     Memory,
 }

@@ -1,6 +1,7 @@
 //! Equations between numbered types, and the one solution, if there is just one: unification.
 #![tactic(auto)]
 
+mod depths;
 mod equation;
 mod fault;
 mod laws;
@@ -16,6 +17,3 @@ pub use fault::SolveFault;
 pub use laws::{equations_join, other_types_are_free, types_are_in_order};
 pub use solution::Solution;
 pub use solving::solve;
-
-#[cfg(test)]
-mod tests;

@@ -1,5 +1,5 @@
 ghost use Rattle.std.specs.Prelude.{◌≡◌, set, IfOk};
-ghost use Rattle.type_equations.specs.Settling as spec;
+ghost use Rattle.type_equations.specs.steps.Settling as spec;
 
 use std::alloc::{AllocError, Global};
 use std::marker::Model;

@@ -2,7 +2,7 @@ ghost use Rattle.std.specs.Prelude.{◌≡◌, ◌<◌, ◌≤◌, ◌+◌, ◌*
 ghost use Rattle.eb_value.specs.declared.types.EbType.{EbType};
 ghost use Rattle.type_equations.specs.Equations.{Holds, IsBelow, AreBelow, HaveNone};
 ghost use Rattle.type_equations.specs.Faults.{OnFault};
-ghost use Rattle.type_equations.specs.Merging as spec;
+ghost use Rattle.type_equations.specs.steps.Merging as spec;
 ghost use Rattle.type_equations.specs.Stores.{Fits, Agrees, ArePlaced, IsPlaced, IsFree, is_link, entry_at};
 
 use crate::equation::Equation;

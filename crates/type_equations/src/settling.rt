@@ -1,10 +1,12 @@
-ghost use Rattle.std.specs.Prelude.{◌≡◌, ◌<◌, [], ◌∷◌, ◌++◌, length, ℕ, MatchResult, MatchOption};
+ghost use Rattle.std.specs.Prelude.{◌≡◌, ◌<◌, [], ◌∷◌, ◌++◌, length, ℕ, IfOk, OnOk, MatchResult, MatchOption};
 ghost use Rattle.eb_value.specs.declared.types.EbType.{EbType};
 ghost use Rattle.type_equations.specs.declared.marks.Mark.TheVariants as mark;
 ghost use Rattle.type_equations.specs.Faults.{OnFault};
-ghost use Rattle.type_equations.specs.Settling as spec;
+ghost use Rattle.type_equations.specs.steps.Deepening.{AreDeep};
+ghost use Rattle.type_equations.specs.steps.Settling as spec;
 ghost use Rattle.type_equations.specs.Stores.{Agrees, ArePlaced, entry_at};
 
+use crate::depths::{Depths, depth_by};
 use crate::fault::SolveFault;
 use crate::marks::{Mark, Marks};
 use crate::store::{Entry, Store};
@@ -56,17 +58,23 @@ fn settled(marks: &Marks, entry: Entry) -> Mark
 fn visit(
     store: &Store,
     marks: &mut Marks,
+    depths: &mut Depths,
     path: &mut Vec<u32>,
     number: u32,
 ) -> Result<(), SolveFault>
     requires placed { ArePlaced store.now }
+    requires deep { AreDeep store.now marks.old depths.old }
     requires way { spec.IsOnWay store.now marks.old (path.old.items ++ number ∷ []) }
-    ensures { MatchResult result (λ _. spec.Goes store.now marks.old path.old.items marks.new path.new.items) (λ fault. OnFault fault (spec.Circular store.now) ⊥) }
+    ensures deep { OnOk result (AreDeep store.now marks.new depths.new) }
+    ensures way { MatchResult result (λ _. spec.Goes store.now marks.old path.old.items marks.new path.new.items) (λ fault. OnFault fault (spec.Circular store.now) ⊥) }
 {
     match unsettled(marks, store.entry(number)) {
         None => {
-            let mark = settled(marks, store.entry(number));
+            let entry = store.entry(number);
+            let mark = settled(marks, entry);
+            let depth = depth_by(depths, entry);
             marks.put(number, mark);
+            depths.put(number, depth);
         }
         Some(part) => {
             if marks.mark(part) == Mark::Begun {
@@ -85,35 +93,46 @@ fn visit(
 fn settle(
     store: &Store,
     marks: &mut Marks,
+    depths: &mut Depths,
     path: &mut Vec<u32>,
     number: u32,
 ) -> Result<(), SolveFault>
     requires placed { ArePlaced store.now }
+    requires deep { AreDeep store.now marks.old depths.old }
     requires way { spec.IsOnWay store.now marks.old path.old.items }
     requires idle { path.old.items ≡ [] }
     requires there { number < length store.now }
-    ensures { MatchResult result (λ _. spec.Settles store.now number marks.old marks.new path.new.items) (λ fault. OnFault fault (spec.Circular store.now) ⊥) }
+    ensures deep { OnOk result (AreDeep store.now marks.new depths.new) }
+    ensures way { MatchResult result (λ _. spec.Settles store.now number marks.old marks.new path.new.items) (λ fault. OnFault fault (spec.Circular store.now) ⊥) }
 {
     if marks.mark(number) == Mark::Fresh {
         path.push(number)?;
         marks.put(number, Mark::Begun);
     }
     while let Some(last) = path.pop() {
-        visit(store, marks, path, last)?;
+        visit(store, marks, depths, path, last)?;
     }
     Ok(())
 }
 
-/// Settles each number. The fault `Clash` comes exactly where no types agree with the store.
-pub(crate) fn settle_all(alloc: Global, store: &Store, total: u32) -> Result<Marks, SolveFault>
+/// Settles each number, and keeps the depths of their types. The fault `Clash` comes exactly where no types agree with
+/// the store.
+pub(crate) fn settle_all(
+    alloc: Global,
+    store: &Store,
+    depths: &mut Depths,
+    total: u32,
+) -> Result<Marks, SolveFault>
     requires placed { ArePlaced store.now }
     requires count { length store.now ≡ total }
-    ensures { MatchResult result (λ marks. spec.AreSettled store.now marks) (λ fault. OnFault fault (spec.Circular store.now) ⊥) }
+    requires depths { length depths.old ≡ total }
+    ensures deep { IfOk result (λ marks. AreDeep store.now marks depths.new) }
+    ensures settled { MatchResult result (λ marks. spec.AreSettled store.now marks) (λ fault. OnFault fault (spec.Circular store.now) ⊥) }
 {
     let mut marks = Marks::fresh(alloc, total)?;
     let mut path = Vec::new(alloc);
     for number in 0..total {
-        settle(store, &mut marks, &mut path, number)?;
+        settle(store, &mut marks, depths, &mut path, number)?;
     }
     Ok(marks)
 }

@@ -1,5 +1,6 @@
-ghost use Rattle.std.specs.Prelude.{◌≡◌, ◌<◌, length, slice_get, IfOk};
+ghost use Rattle.std.specs.Prelude.{◌≡◌, ◌<◌, length, slice_get, IfOk, IfSome};
 ghost use Rattle.eb_value.specs.Types.{integer};
+ghost use Rattle.type_equations.specs.Depths.{IsShallow};
 ghost use Rattle.type_equations.specs.Solutions as spec;
 ghost use Rattle.type_equations.specs.Stores.{ArePlaced};
 
@@ -9,8 +10,9 @@ use sqlite_items::Boxed;
 use std::alloc::{AllocError, Global};
 use std::marker::Model;
 
-/// The types of the numbers that were asked for, in order. Contracts see the list of the types. Types share their
-/// parts: it takes memory in proportion to the numbers that the equations speak of, however large the types are.
+/// The types of the numbers that were asked for, in order, each at most 1,000 deep. Contracts see the list of the types.
+/// Types share their parts: it takes memory in proportion to the numbers that the equations speak of, however large the
+/// types are.
 #[derive(Drop)]
 pub struct Solution {
     store: Store,
@@ -77,10 +79,11 @@ impl Solution {
         self.asked
     }
 
-    /// The type of a number, written out, and None exactly where the number isn't asked for. The only error is want of
-    /// memory: a type can be much larger than the equations.
+    /// The type of a number, written out, and None exactly where the number isn't asked for. A type is at most 1,000 deep,
+    /// and so is the recursion. The only error is want of memory: a type can be much larger than the equations.
     pub fn type_of(&self, alloc: Global, number: u32) -> Result<Option<EbType>, AllocError>
-        ensures { IfOk result (λ ty. ty ≡ slice_get self.now number) }
+        ensures value { IfOk result (λ ty. ty ≡ slice_get self.now number) }
+        ensures shallow { IfOk result (λ ty. IfSome ty IsShallow) }
     {
         if number < self.asked {
             let ty = written(alloc, &self.store, number)?;
@@ -88,16 +91,5 @@ impl Solution {
         } else {
             Ok(None)
         }
-    }
-
-    /// An equal solution. The only error is want of memory.
-    pub fn copied(&self, alloc: Global) -> Result<Solution, AllocError>
-        ensures { IfOk result (λ copy. copy ≡ self.now) }
-    {
-        let store = self.store.copied(alloc)?;
-        Ok(Solution {
-            store,
-            asked: self.asked,
-        })
     }
 }

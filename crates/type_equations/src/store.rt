@@ -48,14 +48,6 @@ impl Store {
         Ok(Store { entries })
     }
 
-    /// An equal store. The only error is want of memory.
-    pub(crate) fn copied(&self, alloc: Global) -> Result<Store, AllocError>
-        ensures { IfOk result (λ copy. copy ≡ self.now) }
-    {
-        let entries = Vec::from_slice(alloc, self.entries.as_slice())?;
-        Ok(Store { entries })
-    }
-
     /// The number's entry. Nothing is known of a number past the end.
     pub(crate) fn entry(&self, number: u32) -> Entry
         ensures { result ≡ spec.entry_at self.now number }

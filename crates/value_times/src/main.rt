@@ -3,7 +3,8 @@
 #![tactic(auto)]
 
 use eb_value::{
-    EbType, Form, Scope, Shape, Sizes, Value, Values, compose, count, is_ascending, union, values,
+    EbType, Form, Scope, Shape, Sizes, Value, Values, compose, count, cross, is_ascending, union,
+    values,
 };
 use sqlite_items::Boxed;
 use std::alloc::{AllocError, Global};
@@ -21,6 +22,18 @@ fn successors(alloc: Global, from: u32, many: u32) -> Result<Values, AllocError>
         })?;
     }
     Ok(pairs)
+}
+
+/// The pairs of all numbers below a bound.
+fn all_pairs(alloc: Global, bound: u32) -> Result<Values, AllocError> {
+    let mut numbers = Values::new(alloc);
+    for number in 0..bound {
+        numbers.push(Value::integer(i64::from(number)))?;
+    }
+    if !is_ascending(numbers.as_slice()) {
+        return Ok(numbers);
+    }
+    cross(alloc, &numbers, &numbers)
 }
 
 /// The sets of the atoms of a carrier set with sixteen.
@@ -46,12 +59,22 @@ fn all_sets(alloc: Global) -> Result<Values, AllocError> {
     }
 }
 
+/// The relations that an operator is applied to.
+fn relations(alloc: Global, operator: &str) -> Result<(Values, Values), AllocError> {
+    if operator == "dense" {
+        let left = all_pairs(alloc, 128)?;
+        Ok((left, all_pairs(alloc, 128)?))
+    } else {
+        let left = successors(alloc, 0, 4000)?;
+        Ok((left, successors(alloc, 2000, 4000)?))
+    }
+}
+
 fn result_of(alloc: Global, operator: &str) -> Result<Values, AllocError> {
     if operator == "values" {
         return all_sets(alloc);
     }
-    let left = successors(alloc, 0, 4000)?;
-    let right = successors(alloc, 2000, 4000)?;
+    let (left, right) = relations(alloc, operator)?;
     if !is_ascending(left.as_slice()) || !is_ascending(right.as_slice()) {
         return Ok(Values::new(alloc));
     }
@@ -71,6 +94,3 @@ fn main(rt: HostRuntime) -> io::Result<()> {
     }
     Ok(())
 }
-
-#[cfg(test)]
-mod tests;

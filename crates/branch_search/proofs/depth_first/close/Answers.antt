@@ -1,6 +1,6 @@
 use Rattle.std.proofs.Common.{◌≡◌, ◌∷◌, arith}
 use Rattle.occ_store.specs.Boxes.{after_first}
-use Rattle.branch_search.specs.Going as going
+use Rattle.branch_search.specs.steps.Going as going
 use Rattle.branch_search.proofs.Goings as goings
 use Rattle.branch_search.proofs.depth_first.close.Goals as goal
 
@@ -31,7 +31,7 @@ loop-store-preserved-in-Split c =
     let first : c.loop-store.boxes ≡ c.in-Some.store.now ∷ after_first c.loop-store.boxes = c.in-Some.ensures in
     let move : going.IsMove c.args.facts.now c.in-Some.store.now c.loop-store.left c.in_ok-choice.field-0 = c.in_ok-choice.ensures in
     let parts = rw c.in-Split.is at move in
-    rw (c.in_ok-split-in-Split.ensures, c.in_ok-push-in-Split.ensures.items, c.split_line.ensures)
+    rw (c.in_ok-split-in-Split.ensures.split, c.in_ok-push-in-Split.ensures.items, c.split_line.ensures)
     (goings.split_going c.args.facts.now c.args.first c.args.budget c.loop-store.boxes c.in-Some.store.now (after_first c.loop-store.boxes) c.loop-store.lines.items c.loop-store.left c.loop-store.gave_up
     c.in-Split.choice c.in-Split.domain c.halves-halves.result first c.loop-store.invariant (parts.0).domain c.halves-halves.ensures parts.1)
 

@@ -1,5 +1,5 @@
 use Rattle.std.proofs.Common.{length, ◌+◌, ◌*◌}
-use Rattle.branch_search.specs.Going.{IsGoing}
+use Rattle.branch_search.specs.steps.Going.{IsGoing}
 use Rattle.branch_search.proofs.depth_first.close.Given as goal
 
 abbrev pub invariant-loop-store : goal.invariant-loop-store

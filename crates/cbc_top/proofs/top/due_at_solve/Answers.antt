@@ -1,8 +1,14 @@
-use Rattle.cbc_top.specs.Run.{IsSolved}
-use Rattle.cbc_top.proofs.Runs.{due_on_model, always_due}
+use Rattle.std.proofs.Common.{rules, subst, ℕ, List, Err}
+use Rattle.cbc_top.specs.steps.Reads.{ReadsModel}
+use Rattle.cbc_top.proofs.Runs.{solve_stops}
 use Rattle.cbc_top.proofs.top.due_at_solve.Goals as goal
 
-pub returns-clause-lawful : goal.returns-clause-lawful
-returns-clause-lawful g c =
-    due_on_model (g.S.Source.files c.args.src.now) c.args.names (λ fs. IsSolved c.args.budget) c.in_ok-model.model c.in_ok-due.due.0 c.in_ok-due.due.1
-    (rw c.as_slice.ensures at c.in_ok-model.ensures.read) (always_due (g.S.Source.files c.args.src.now) _ c.in_ok-due.ensures.lawful)
+pub returns-in_err-asked-clause-lawful : goal.returns-in_err-asked-clause-lawful
+returns-in_err-asked-clause-lawful g c =
+    search (
+      rules,
+      solve_stops c.args.names c.args.budget (g.S.Source.files c.args.src.now) (g.S.Source.opened c.args.src.now) (g.S.Source.opened c.model_in.new.src) (g.S.Source.fault_name c.model_in.new.src)
+          c.in_err-asked.field-0.0
+          (subst (λ (z : List (List ℕ)). ReadsModel z (g.S.Source.files c.args.src.now) (g.S.Source.opened c.args.src.now) (g.S.Source.opened c.model_in.new.src) (g.S.Source.fault_name c.model_in.new.src) (Err c.in_err-asked.field-0.0))
+          c.as_slice.ensures c.in_err-asked.ensures.read),
+    )

@@ -1,5 +1,5 @@
 use Rattle.std.proofs.Common.{◌≡◌, ℕ, List, take}
-use Rattle.indexmap.specs.IndexMap.{get_by_text}
+use Rattle.std.specs.BTreeMap.{get_by_text}
 use Rattle.eb_infer.specs.Numbering as spec
 use Rattle.eb_infer.proofs.scope.places_of.Given as goal
 

@@ -1,6 +1,6 @@
 use Rattle.std.proofs.Common.{◌≡◌, take}
 use Rattle.std.specs.Prelude.{ℕ, fold}
-use Rattle.eb_infer.specs.Generating as spec
+use Rattle.eb_infer.specs.steps.Generating as spec
 use Rattle.eb_infer.specs.Typing.{ungrouped}
 use Rattle.eb_infer.proofs.tuple.tuple.Given as goal
 

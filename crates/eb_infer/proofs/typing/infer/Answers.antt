@@ -12,7 +12,7 @@ returns-in-Ok-clause-typed c =
 pub returns-in-Err-Clash-clause-cause : goal.returns-in-Err-Clash-clause-cause
 returns-in-Err-Clash-clause-cause c =
     let p = c.in_ok-problem.problem in
-    let o = rw c.in-Err-Clash.field-0-is at c.in-Err-Clash.ensures in
+    let o = rw c.in-Err-Clash.field-0-is at c.in-Err-Clash.ensures.solution in
     let s : HaveNone p.equations = subst HaveNone c.as_slice-equations.ensures o in
     no_typing c.args.units.now p.asked p.equations c.in_ok-problem.ensures.equated s
 

@@ -1,6 +1,6 @@
 use Rattle.std.proofs.Common.{◌≡◌, [], rules}
 use Rattle.eb_scoping.specs.Models.{marked}
-use Rattle.eb_infer.specs.Generating as spec
+use Rattle.eb_infer.specs.steps.Generating as spec
 use Rattle.eb_infer.specs.Models as models
 use Rattle.eb_infer.proofs.Equations.{equated_by}
 use Rattle.eb_infer.proofs.typing.problem_of.Goals as goal

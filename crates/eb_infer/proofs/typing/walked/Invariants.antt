@@ -1,6 +1,6 @@
 use Rattle.std.proofs.Common.{drop}
 use Rattle.eb_scoping.specs.Models.{marked}
-use Rattle.eb_infer.specs.Generating as spec
+use Rattle.eb_infer.specs.steps.Generating as spec
 use Rattle.eb_infer.specs.Models as models
 use Rattle.eb_infer.proofs.Marking.{Marked}
 use Rattle.eb_infer.proofs.typing.walked.Given as goal

@@ -1,6 +1,6 @@
 use Rattle.std.proofs.Common.{◌≡◌, ◌∙◌, ap, rules, map}
 use Rattle.eb_infer.specs.Numbering as numbers
-use Rattle.eb_infer.specs.Generating as spec
+use Rattle.eb_infer.specs.steps.Generating as spec
 use Rattle.eb_infer.proofs.WalkLaws.{all_row}
 use Rattle.eb_infer.proofs.walk.+walking.Goals as goal
 

@@ -1,5 +1,5 @@
 use Rattle.std.proofs.Common.{◌∙◌, sym, ap, arith, inl, Ok}
-use Rattle.eb_lexer.specs.Lexing.{seen}
+use Rattle.eb_lexer.specs.steps.Lexing.{seen}
 use Rattle.eb_lexer.specs.Tokens as spec
 use Rattle.eb_lexer.proofs.TextLaws.{gap_moves, token_moves, is_whole, is_bad, one_reading, no_bad_place}
 use Rattle.eb_lexer.proofs.lexer.tokens.Goals as goal

@@ -1,6 +1,6 @@
 use Rattle.std.proofs.Common.{◌≡◌, ◌≤◌, ◌+◌, length}
 use Rattle.std.specs.Option.{option_map}
-use Rattle.eb_lexer.specs.Lexing as lexing
+use Rattle.eb_lexer.specs.steps.Lexing as lexing
 use Rattle.eb_lexer.proofs.pieces.close_at.Given as goal
 
 abbrev pub invariant-loop-rest : goal.invariant-loop-rest

@@ -3,7 +3,7 @@ use Rattle.std.specs.List.{flat_map}
 use Rattle.std.specs.Result.{OnOk}
 use Rattle.std.specs.declared.result.Result.{Result}
 use Rattle.eb_lower.specs.Declarations.{Declaration, formula_declarations}
-use Rattle.eb_lower.specs.Seen as seen
+use Rattle.eb_lower.specs.steps.Seen as seen
 use Rattle.eb_lower.proofs.FormulaLaws.{declared_extension, declared_partition}
 use Rattle.eb_lower.proofs.declarations.+walking.Goals as goal
 

@@ -1,6 +1,6 @@
 use Rattle.std.proofs.Common.{◌≡◌, map, take}
 use Rattle.eb_lower.specs.Declarations as spec
-use Rattle.eb_lower.specs.Seen as seen
+use Rattle.eb_lower.specs.steps.Seen as seen
 use Rattle.eb_lower.proofs.declarations.declarations.Given as goal
 
 abbrev pub invariant-loop-i : goal.invariant-loop-i

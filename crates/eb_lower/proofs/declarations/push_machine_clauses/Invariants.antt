@@ -1,7 +1,7 @@
 use Rattle.std.proofs.Common.{◌≡◌, ◌++◌, map, take}
 use Rattle.std.specs.List.{flat_map}
 use Rattle.eb_lower.specs.Declarations as spec
-use Rattle.eb_lower.specs.Seen as seen
+use Rattle.eb_lower.specs.steps.Seen as seen
 use Rattle.eb_lower.proofs.declarations.push_machine_clauses.Given as goal
 
 abbrev pub invariant-loop-clause : goal.invariant-loop-clause

@@ -1,7 +1,7 @@
 use Rattle.std.proofs.Common.{◌≡◌, ◌++◌, map, take}
 use Rattle.eb_scoping.specs.FreeNames.{names_of}
 use Rattle.eb_lower.specs.Declarations as spec
-use Rattle.eb_lower.specs.Seen as seen
+use Rattle.eb_lower.specs.steps.Seen as seen
 use Rattle.eb_lower.proofs.declarations.push_names.Given as goal
 
 abbrev pub invariant-loop-name : goal.invariant-loop-name

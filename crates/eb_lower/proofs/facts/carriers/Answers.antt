@@ -1,5 +1,5 @@
 use Rattle.std.proofs.Common.{◌<◌, ◌≤◌, get_or, false, refl, sym, subst}
-use Rattle.eb_lower.specs.Keys.{has_text}
+use Rattle.eb_scoping.specs.Sets.{has_text}
 use Rattle.eb_lower.proofs.FactLaws.{carried_more, carried_all}
 use Rattle.eb_lower.proofs.facts.carriers.Goals as goal
 

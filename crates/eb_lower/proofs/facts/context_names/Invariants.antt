@@ -1,7 +1,7 @@
 use Rattle.std.proofs.Common.{◌≡◌, ℕ, List, take}
 use Rattle.eb_scoping.specs.FreeNames.{is_among}
-use Rattle.eb_lower.specs.Facts as facts
-use Rattle.eb_lower.specs.Keys.{has_text}
+use Rattle.eb_lower.specs.steps.Facts as facts
+use Rattle.eb_scoping.specs.Sets.{has_text}
 use Rattle.eb_lower.proofs.facts.context_names.Given as goal
 
 abbrev pub invariant-loop-unit : goal.invariant-loop-unit

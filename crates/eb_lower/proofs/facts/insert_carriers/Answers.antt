@@ -1,4 +1,4 @@
-use Rattle.eb_lower.specs.Keys.{has_text}
+use Rattle.eb_scoping.specs.Sets.{has_text}
 use Rattle.eb_lower.specs.Usages.{clause_carriers}
 use Rattle.eb_lower.proofs.FactLaws.{among_more}
 use Rattle.eb_lower.proofs.facts.insert_carriers.Goals as goal

@@ -1,6 +1,6 @@
 use Rattle.std.proofs.Common.{◌≡◌, ◌||◌, ℕ, List, take}
 use Rattle.eb_scoping.specs.FreeNames.{names_of, is_among}
-use Rattle.eb_lower.specs.Keys.{has_text}
+use Rattle.eb_scoping.specs.Sets.{has_text}
 use Rattle.eb_lower.proofs.facts.insert_names.Given as goal
 
 abbrev pub invariant-loop-name : goal.invariant-loop-name

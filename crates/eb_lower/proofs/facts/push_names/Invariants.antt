@@ -1,6 +1,6 @@
 use Rattle.std.proofs.Common.{◌≡◌, ◌++◌, take}
 use Rattle.eb_scoping.specs.FreeNames.{names_of}
-use Rattle.eb_lower.specs.Facts as facts
+use Rattle.eb_lower.specs.steps.Facts as facts
 use Rattle.eb_lower.proofs.facts.push_names.Given as goal
 
 abbrev pub invariant-loop-name : goal.invariant-loop-name

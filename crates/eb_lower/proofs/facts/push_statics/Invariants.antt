@@ -1,7 +1,7 @@
 use Rattle.std.proofs.Common.{◌≡◌, ◌++◌, take}
 use Rattle.std.specs.List.{flat_map}
 use Rattle.eb_lower.specs.Usages as spec
-use Rattle.eb_lower.specs.Facts as facts
+use Rattle.eb_lower.specs.steps.Facts as facts
 use Rattle.eb_lower.proofs.facts.push_statics.Given as goal
 
 abbrev pub invariant-loop-clause : goal.invariant-loop-clause

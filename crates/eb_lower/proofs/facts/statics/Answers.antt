@@ -1,5 +1,5 @@
 use Rattle.std.proofs.Common.{◌<◌, ◌≤◌, get_or, false, refl, sym, subst}
-use Rattle.eb_lower.specs.Facts.{seen_heads}
+use Rattle.eb_lower.specs.steps.Facts.{seen_heads}
 use Rattle.eb_lower.proofs.FactLaws.{headed_more, grouped_statics}
 use Rattle.eb_lower.proofs.facts.statics.Goals as goal
 

@@ -1,5 +1,5 @@
 use Rattle.std.proofs.Common.{◌≡◌, take}
-use Rattle.eb_lower.specs.Facts as facts
+use Rattle.eb_lower.specs.steps.Facts as facts
 use Rattle.eb_lower.proofs.facts.statics.Given as goal
 
 abbrev pub invariant-loop-i : goal.invariant-loop-i

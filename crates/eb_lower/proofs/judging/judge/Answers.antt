@@ -1,5 +1,5 @@
 use Rattle.std.proofs.Common.{◌∙◌, [], map, ap, subst}
-use Rattle.eb_lower.specs.Seen as seen
+use Rattle.eb_lower.specs.steps.Seen as seen
 use Rattle.eb_lower.specs.Declarations.{AreDistinct}
 use Rattle.eb_lower.proofs.AnswerLaws.{declared_answer, known_answer}
 use Rattle.eb_lower.proofs.UnitLaws.{marks_length}

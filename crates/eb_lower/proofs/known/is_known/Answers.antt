@@ -1,9 +1,9 @@
 use Rattle.std.proofs.Common.{◌∙◌, IfOk, sym, ap, subst}
 use Rattle.eb_scoping.specs.FreeNames as uses
 use Rattle.eb_lower.specs.Usages as spec
-use Rattle.eb_lower.specs.Positions as seen
-use Rattle.eb_lower.specs.Keys.{has_text}
-use Rattle.eb_lower.specs.Known.{Tells}
+use Rattle.eb_lower.specs.steps.Positions as seen
+use Rattle.eb_scoping.specs.Sets.{has_text}
+use Rattle.eb_lower.specs.steps.Known.{Tells}
 use Rattle.eb_lower.proofs.ContextLaws.{tells_context, tells_carrier}
 use Rattle.eb_lower.proofs.known.is_known.Goals as goal
 

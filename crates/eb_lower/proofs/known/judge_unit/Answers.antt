@@ -1,14 +1,14 @@
 use Rattle.std.proofs.Common.{◌∷◌, [], ◌+◌, map, take, drop, sym, subst}
 use Rattle.std.specs.List.{AllByRecursion}
 use Rattle.eb_lower.specs.Usages.{IsKnown}
-use Rattle.eb_lower.specs.Positions as seen
+use Rattle.eb_lower.specs.steps.Positions as seen
 use Rattle.eb_lower.proofs.AnswerLaws.{usage_unknown, all_more}
 use Rattle.eb_lower.proofs.RepeatLaws.{taken_more, parts_at}
 use Rattle.eb_lower.proofs.PlacedLaws.{placed_at}
 use Rattle.eb_lower.proofs.known.judge_unit.Goals as goal
 
-pub returns-in-Err : goal.returns-in-Err
-returns-in-Err c = λ marks t. let us = c.args.units.now in let xs = c.args.usages.now in let i = c.loop-usage.usage-index in let x = c.usage-item.result in
+pub returns-in-Err-clause-known : goal.returns-in-Err-clause-known
+returns-in-Err-clause-known c = λ marks t. let us = c.args.units.now in let xs = c.args.usages.now in let i = c.loop-usage.usage-index in let x = c.usage-item.result in
     usage_unknown us marks (map seen.usage xs) (map seen.usage (take i xs)) (map seen.usage (drop (i + 1) xs)) (seen.usage x) c.in-Err.fault (c.loop-usage.invariant.known marks t)
     (parts_at seen.usage xs i x c.loop-usage-test.true c.usage-item.is) (c.in-Err.ensures.known marks t)
 

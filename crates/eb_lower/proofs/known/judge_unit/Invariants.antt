@@ -1,8 +1,8 @@
 use Rattle.std.proofs.Common.{List, Bool, map, take}
 use Rattle.std.specs.List.{AllByRecursion}
 use Rattle.eb_lower.specs.Usages.{IsKnown}
-use Rattle.eb_lower.specs.Positions as seen
-use Rattle.eb_lower.specs.Known.{Text, ReachIs}
+use Rattle.eb_lower.specs.steps.Positions as seen
+use Rattle.eb_lower.specs.steps.Known.{Text, ReachIs}
 use Rattle.eb_lower.proofs.known.judge_unit.Given as goal
 
 abbrev pub invariant-loop-usage : goal.invariant-loop-usage

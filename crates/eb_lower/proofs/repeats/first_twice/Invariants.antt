@@ -1,5 +1,5 @@
 use Rattle.std.proofs.Common.{map, take}
-use Rattle.eb_lower.specs.Keys.{HasFront}
+use Rattle.eb_lower.specs.steps.Keys.{HasFront}
 use Rattle.eb_lower.proofs.repeats.first_twice.Given as goal
 
 abbrev pub invariant-loop-name : goal.invariant-loop-name

@@ -1,5 +1,5 @@
 use Rattle.std.proofs.Common.{◌∙◌}
-use Rattle.eb_lower.specs.Keys.{has, same_key}
+use Rattle.eb_lower.specs.steps.Keys.{has, same_key}
 use Rattle.eb_lower.proofs.KeyLaws.{cond_or}
 use Rattle.eb_lower.proofs.repeats.insert_key.Goals as goal
 

@@ -1,13 +1,13 @@
 use Rattle.std.proofs.Common.{◌≡◌, ◌∙◌, map, ap, sym, subst}
 use Rattle.eb_scoping.specs.FreeNames.{names_of, mark_names}
 use Rattle.std.specs.List.{flat_map}
-use Rattle.eb_lower.specs.Seen as seen
-use Rattle.eb_lower.specs.Keys.{BindsApart, Judged}
+use Rattle.eb_lower.specs.steps.Seen as seen
+use Rattle.eb_lower.specs.steps.Keys.{BindsApart, Judged}
 use Rattle.eb_lower.proofs.KeyLaws.{binds_judged}
 use Rattle.eb_lower.proofs.repeats.judge.Goals as goal
 
 pub returns-in_ok-names-in-Identifiers : goal.returns-in_ok-names-in-Identifiers
-returns-in_ok-names-in-Identifiers c = λ before k. let h = c.args.known.now in let xs = names_of c.in-Identifiers.names.now in
+returns-in_ok-names-in-Identifiers c = λ before k. let h = c.args.known.now in let xs = names_of c.in-Identifiers.identifiers.now in
     let same : map (λ x. x.now) c.deref.result.now ≡ xs = ap (map (λ x. x.now)) c.deref.ensures.value ∙ c.in_ok-names-in-Identifiers.ensures in
     subst (λ z. Judged before (seen.declaration z) h.keys h.parameters c.judge_binder.result) (sym c.in-Identifiers.is)
     (binds_judged h.keys h.parameters before xs c.judge_binder.result (subst (λ z. BindsApart z c.judge_binder.result) same c.judge_binder.ensures) k)

@@ -1,6 +1,6 @@
 use Rattle.std.proofs.Common.{◌+◌, map, take, drop, sym, subst}
-use Rattle.eb_lower.specs.Seen as seen
-use Rattle.eb_lower.specs.Keys.{JudgesFront}
+use Rattle.eb_lower.specs.steps.Seen as seen
+use Rattle.eb_lower.specs.steps.Keys.{JudgesFront}
 use Rattle.eb_lower.proofs.KeyLaws.{judged_first, judges_none}
 use Rattle.eb_lower.proofs.RepeatLaws.{distinct_more, taken_more, parts_at}
 use Rattle.eb_lower.proofs.repeats.judge_all.Goals as goal

@@ -1,6 +1,6 @@
 use Rattle.std.proofs.Common.{map, take}
-use Rattle.eb_lower.specs.Seen as seen
-use Rattle.eb_lower.specs.Keys.{JudgesFront}
+use Rattle.eb_lower.specs.steps.Seen as seen
+use Rattle.eb_lower.specs.steps.Keys.{JudgesFront}
 use Rattle.eb_lower.proofs.repeats.judge_all.Given as goal
 
 abbrev pub invariant-loop-declaration : goal.invariant-loop-declaration

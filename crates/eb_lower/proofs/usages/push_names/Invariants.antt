@@ -1,6 +1,6 @@
 use Rattle.std.proofs.Common.{◌≡◌, ◌++◌, map, take}
 use Rattle.eb_lower.specs.Usages as spec
-use Rattle.eb_lower.specs.Positions as seen
+use Rattle.eb_lower.specs.steps.Positions as seen
 use Rattle.eb_lower.proofs.usages.push_names.Given as goal
 
 abbrev pub invariant-loop-name : goal.invariant-loop-name

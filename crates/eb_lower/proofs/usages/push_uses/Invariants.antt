@@ -1,7 +1,7 @@
 use Rattle.std.proofs.Common.{◌≡◌, ◌++◌, map, take}
 use Rattle.eb_scoping.specs.FreeNames as uses
 use Rattle.eb_lower.specs.Usages as spec
-use Rattle.eb_lower.specs.Positions as seen
+use Rattle.eb_lower.specs.steps.Positions as seen
 use Rattle.eb_lower.proofs.usages.push_uses.Given as goal
 
 abbrev pub invariant-loop-used : goal.invariant-loop-used

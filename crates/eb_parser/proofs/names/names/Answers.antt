@@ -1,6 +1,6 @@
 use Rattle.std.proofs.Common.{◌≡◌, ◌+◌, ◌-◌, ◌∙◌, length, true, false, [], ◌∷◌, ◌++◌, Ok, sym, rules, arith}
 use Rattle.std.proofs.lemmas.Result.{err_from_is_err_and}
-use Rattle.eb_parser.specs.Reading.{separator}
+use Rattle.eb_parser.specs.steps.Climbing.{separator}
 use Rattle.eb_parser.proofs.Equations.{names_turn, names_end, names_none, names_fails, names_parts}
 use Rattle.eb_parser.proofs.names.names.Goals as goal
 

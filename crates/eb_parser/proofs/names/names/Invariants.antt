@@ -1,5 +1,5 @@
 use Rattle.std.proofs.Common.{length, ◌≡◌, ◌-◌}
-use Rattle.eb_parser.specs.Reading.{names}
+use Rattle.eb_parser.specs.steps.Climbing.{names}
 use Rattle.eb_parser.proofs.Equations.{names_with}
 use Rattle.eb_parser.proofs.names.names.Given as goal
 

@@ -1,6 +1,6 @@
 use Rattle.std.proofs.Common.{◌≡◌, ◌+◌, ◌-◌, ◌∙◌, length, true, false, [], ◌∷◌, ◌++◌, sym, arith}
 use Rattle.std.proofs.lemmas.Result.{err_from_is_err_and}
-use Rattle.eb_parser.specs.Reading.{ends_pattern}
+use Rattle.eb_parser.specs.steps.Climbing.{ends_pattern}
 use Rattle.eb_parser.proofs.Equations.{pattern_turn, pattern_end, pattern_none, pattern_fails, pattern_parts}
 use Rattle.eb_parser.proofs.names.pattern.Goals as goal
 

@@ -1,5 +1,5 @@
 use Rattle.std.proofs.Common.{length, ◌≡◌, ◌-◌, ◌≤◌, true}
-use Rattle.eb_parser.specs.Reading.{pattern}
+use Rattle.eb_parser.specs.steps.Climbing.{pattern}
 use Rattle.eb_parser.proofs.Equations.{marks_with}
 use Rattle.eb_parser.proofs.names.pattern.Given as goal
 

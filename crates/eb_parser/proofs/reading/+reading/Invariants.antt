@@ -1,5 +1,5 @@
 use Rattle.std.proofs.Common.{◌≡◌, ◌+◌, ◌*◌, ◌-◌, ◌≤◌, length}
-use Rattle.eb_parser.specs.Reading.{climb, read, row_after}
+use Rattle.eb_parser.specs.steps.Climbing.{climb, read, row_after}
 use Rattle.eb_parser.proofs.Equations.{row_state}
 use Rattle.eb_parser.proofs.reading.+reading.Given as goal
 

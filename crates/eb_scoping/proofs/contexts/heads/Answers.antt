@@ -1,5 +1,5 @@
 use Rattle.std.proofs.Common.{◌≡◌, length, sym, subst, arith}
-use Rattle.eb_scoping.specs.Groups.{AreHeads, seen_heads}
+use Rattle.eb_scoping.specs.steps.Heads.{AreHeads, seen_heads}
 use Rattle.eb_scoping.proofs.IndexLaws.{heads_none, heads_more}
 use Rattle.eb_scoping.proofs.contexts.heads.Goals as goal
 

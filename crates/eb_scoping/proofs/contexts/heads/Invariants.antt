@@ -1,4 +1,4 @@
-use Rattle.eb_scoping.specs.Groups.{AreHeads, seen_heads}
+use Rattle.eb_scoping.specs.steps.Heads.{AreHeads, seen_heads}
 use Rattle.eb_scoping.proofs.contexts.heads.Given as goal
 
 abbrev pub invariant-loop-i : goal.invariant-loop-i

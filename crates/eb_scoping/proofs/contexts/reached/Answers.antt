@@ -1,24 +1,12 @@
-use Rattle.std.proofs.Common.{◌≡◌, ◌∙◌, length, [], false, replicate, ap, sym, subst, arith}
-use Rattle.std.specs.List.{flat_map}
-use Rattle.std.proofs.lemmas.List.{length-replicate}
-use Rattle.eb_scoping.specs.Walks.{IsWalk, Moves}
-use Rattle.eb_scoping.specs.Groups.{group}
-use Rattle.eb_scoping.proofs.IndexLaws.{group_inside, walk_none}
-use Rattle.eb_scoping.proofs.SpreadLaws.{all_reached}
+use Rattle.std.proofs.Common.{Contains, subst}
+use Rattle.eb_scoping.specs.FreeNames.{names_of}
+use Rattle.eb_scoping.specs.steps.Walking.{Adds}
+use Rattle.eb_scoping.proofs.WalkLaws.{begins_walk, marks_of}
 use Rattle.eb_scoping.proofs.contexts.reached.Goals as goal
 
-pub reach_names-requires-clause-walk : goal.reach_names-requires-clause-walk
-reach_names-requires-clause-walk c = subst (λ z. IsWalk z c.new.result.items) (sym c.in_ok-same_marks.ensures) (subst (λ z. IsWalk (replicate (length c.args.units.now) false) z) (sym c.new.ensures.items) (walk_none (length c.args.units.now)))
-
-pub reach_names-requires-clause-inside : goal.reach_names-requires-clause-inside
-reach_names-requires-clause-inside c =
-    let z : length c.in_ok-same_marks.field-0.items ≡ length c.args.units.now = ap length c.in_ok-same_marks.ensures ∙ length-replicate (length c.args.units.now) false in
-    group_inside c.args.units.now c.in_ok-groups.groups c.in_ok-groups.ensures (length c.in_ok-same_marks.field-0.items) (omega (arith, z))
-
 pub returns : goal.returns
-returns c = let n = c.reach_names.new.walk in
-    let first : Moves (replicate (length c.args.units.now) false) [] n.marks.items n.queue.items (flat_map (λ x. group c.in_ok-groups.groups x.name) c.args.machine.now.sees)
-    = subst (λ z. Moves z [] n.marks.items n.queue.items (flat_map (λ x. group c.in_ok-groups.groups x.name) c.args.machine.now.sees)) c.in_ok-same_marks.ensures
-    (subst (λ z. Moves c.in_ok-same_marks.field-0.items z n.marks.items n.queue.items (flat_map (λ x. group c.in_ok-groups.groups x.name) c.args.machine.now.sees)) c.new.ensures.items
-    (subst (λ z. Moves c.in_ok-same_marks.field-0.items c.new.result.items n.marks.items n.queue.items (flat_map (λ x. group c.in_ok-groups.groups x.name) z)) c.as_slice.ensures c.in_ok-reach_names.ensures)) in
-    all_reached c.args.units.now c.in_ok-groups.groups c.in_ok-groups.ensures c.args.machine.now c.requires n.marks.items n.queue.items c.spread.new.walk.marks.items first c.in_ok-spread.ensures
+returns c = let us = c.args.units.now in let first = names_of c.args.machine.now.sees in let a = c.empty_walk-walk.result in let b = c.reach_names.new.walk in
+    marks_of us c.args.machine.now c.requires c.search.new.walk c.marks_by_name.result
+    (c.in_ok-search.ensures.walk first (begins_walk us first a b (Contains first) c.empty_walk-walk.ensures (λ q h. h) (λ q h. h)
+    (subst (λ z. Adds a b (Contains (names_of z))) c.as_slice.ensures c.in_ok-reach_names.ensures)))
+    (c.in_ok-search.ensures.ends c.in_ok-search.ensures.found) c.marks_by_name.ensures

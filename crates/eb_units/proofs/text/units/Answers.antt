@@ -1,6 +1,6 @@
 use Rattle.std.proofs.Common.{drop}
 use Rattle.std.proofs.lemmas.Result.{err_from_is_err_and}
-use Rattle.eb_units.specs.Reading as spec
+use Rattle.eb_units.specs.steps.Descending as spec
 use Rattle.eb_units.proofs.TextLaws.{text_reads, text_fault}
 use Rattle.eb_units.proofs.text.units.Goals as goal
 

@@ -1,5 +1,5 @@
 use Rattle.std.proofs.Common.{◌∙◌, ap}
-use Rattle.eb_value.specs.Joins.{applied}
+use Rattle.eb_value.specs.steps.Joins.{applied}
 use Rattle.eb_value.specs.Relations as spec
 use Rattle.eb_value.proofs.FunctionLaws.{applied_none, applied_some, none_behind, some_behind}
 use Rattle.eb_value.proofs.application.apply.Goals as goal

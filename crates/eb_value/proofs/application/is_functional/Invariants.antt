@@ -1,5 +1,5 @@
 use Rattle.std.proofs.Common.{◌≡◌, length}
-use Rattle.eb_value.specs.Joins as step
+use Rattle.eb_value.specs.steps.Joins as step
 use Rattle.eb_value.proofs.application.is_functional.Given as goal
 
 abbrev pub invariant-loop-rest : goal.invariant-loop-rest

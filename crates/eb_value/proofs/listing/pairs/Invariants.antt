@@ -3,4 +3,4 @@ use Rattle.eb_value.specs.Scopes as spec
 use Rattle.eb_value.proofs.listing.pairs.Given as goal
 
 abbrev pub invariant-loop-first : goal.invariant-loop-first
-invariant-loop-first l = l.all ≡ spec.pairs (take l.first-index l.firsts) l.seconds
+invariant-loop-first l = l.all.items ≡ spec.pairs (take l.first-index l.firsts) l.seconds

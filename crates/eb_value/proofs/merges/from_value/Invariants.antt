@@ -1,5 +1,5 @@
 use Rattle.std.proofs.Common.{◌≡◌, length}
-use Rattle.eb_value.specs.Merges as spec
+use Rattle.eb_value.specs.steps.Merges as spec
 use Rattle.eb_value.proofs.merges.from_value.Given as goal
 
 abbrev pub invariant-loop-rest : goal.invariant-loop-rest

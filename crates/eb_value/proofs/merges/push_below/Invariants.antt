@@ -1,5 +1,5 @@
 use Rattle.std.proofs.Common.{◌≡◌, ◌++◌, drop}
-use Rattle.eb_value.specs.Merges as spec
+use Rattle.eb_value.specs.steps.Merges as spec
 use Rattle.eb_value.proofs.merges.push_below.Given as goal
 
 abbrev pub invariant-loop-other : goal.invariant-loop-other

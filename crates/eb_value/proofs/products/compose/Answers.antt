@@ -1,12 +1,32 @@
-use Rattle.std.proofs.Common.{◌≡◌, subst, rules}
+use Rattle.std.proofs.Common.{◌≡◌, ◌∙◌, ◌++◌, sym, ap, subst, rules, arith, take, drop, ◌∷◌, ◌↔◌, ◌⊎◌, [], List}
 use Rattle.std.specs.List.{Contains}
-use Rattle.eb_value.specs.Sets.{IsSetOf}
-use Rattle.eb_value.specs.Joins
-use Rattle.eb_value.specs.declared.products.Join.TheVariants as join
-use Rattle.eb_value.proofs.ProductLaws.{compose_set}
+use Rattle.std.proofs.lemmas.List.{nil_from_length}
+use Rattle.eb_value.specs.declared.value.Value.{Value}
+use Rattle.eb_value.specs.Relations
+use Rattle.eb_value.specs.steps.Joins.{has_first_of}
+use Rattle.eb_value.proofs.ComposeLaws.{Composes, composes_none, composes_on, compose_set, runs_have_first, run_front}
 use Rattle.eb_value.proofs.products.compose.Goals as goal
+
+pub loop-value-init : goal.loop-value-init
+loop-value-init c =
+    let whole : c.as_slice-rest.result.now ≡ c.args.r.now = search rules in
+    subst (λ rest. Composes c.args.r.now c.args.s.now c.new-all.result.items rest) (sym whole)
+    (subst (λ all. Composes c.args.r.now c.args.s.now all c.args.r.now) (sym c.new-all.ensures.items) (composes_none c.args.r.now c.args.s.now))
+
+pub push_composed-requires-clause-first : goal.push_composed-requires-clause-first
+push_composed-requires-clause-first c =
+    let whole : c.loop-value.rest.now ≡ c.in-Some.value.now ∷ c.in-Some.others.now = search rules in
+    runs_have_first c.in-Some.value.now c.in-Some.others.now c.split_at.result.0.now c.run_length.result c.run_length.ensures
+    (run_front c.loop-value.rest.now c.in-Some.others.now c.split_at.result.0.now c.in-Some.value.now c.run_length.result whole c.split_at.ensures.front)
+
+pub loop-value-preserved : goal.loop-value-preserved
+loop-value-preserved c =
+    let split : c.split_at.result.0.now ++ c.split_at.result.1.now ≡ c.loop-value.rest.now = search rules in
+    let relation : c.as_slice.result.now ≡ c.args.s.now = search rules in
+    let added = subst (λ s. (v : Value) → Contains c.push_composed.new.all.items v ↔ (Contains c.loop-value.all.items v ⊎ Relations.InCompose c.split_at.result.0.now s v)) relation c.in_ok-push_composed.ensures in
+    composes_on c.args.r.now c.args.s.now c.split_at.result.0.now c.split_at.result.1.now c.loop-value.rest.now c.loop-value.all.items c.push_composed.new.all.items split added c.loop-value.invariant
 
 pub returns : goal.returns
 returns c =
-    let made : c.in_ok-joins.field-0.items ≡ Joins.joins join.Compose c.args.r.now c.args.s.now = search rules in
-    compose_set c.args.r.now c.args.s.now c.set_of.result (subst (λ xs. IsSetOf (Contains xs) c.set_of.result) made c.set_of.ensures)
+    let end : c.loop-value.rest.now ≡ [] = nil_from_length c.loop-value.rest.now (search rules) in
+    compose_set c.args.r.now c.args.s.now c.loop-value.all.items c.set_of.result (subst (Composes c.args.r.now c.args.s.now c.loop-value.all.items) end c.loop-value.invariant) c.set_of.ensures

@@ -1,7 +1,7 @@
 use Rattle.std.proofs.Common.{◌≡◌, subst, rules}
 use Rattle.std.specs.List.{Contains}
 use Rattle.eb_value.specs.Sets.{IsSetOf}
-use Rattle.eb_value.specs.Joins
+use Rattle.eb_value.specs.steps.Joins
 use Rattle.eb_value.specs.declared.products.Join.TheVariants as join
 use Rattle.eb_value.proofs.ProductLaws.{direct_set}
 use Rattle.eb_value.proofs.products.direct.Goals as goal

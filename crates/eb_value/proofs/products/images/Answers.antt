@@ -1,7 +1,7 @@
 use Rattle.std.proofs.Common.{rules}
 use Rattle.std.specs.Ordering.{is_lt, is_le}
 use Rattle.std.proofs.lemmas.List.Sorted.{IsPartitionPoint-from_clause}
-use Rattle.eb_value.specs.Joins
+use Rattle.eb_value.specs.steps.Joins
 use Rattle.eb_value.proofs.Ascending.{rises}
 use Rattle.eb_value.proofs.ProductLaws.{lt_partitioned, le_partitioned, places_up, images_slice}
 use Rattle.eb_value.proofs.products.images.Goals as goal

@@ -1,5 +1,5 @@
 use Rattle.std.proofs.Common.{◌≡◌, take}
-use Rattle.eb_value.specs.Joins as step
+use Rattle.eb_value.specs.steps.Joins as step
 use Rattle.eb_value.proofs.products.joins.Given as goal
 
 abbrev pub invariant-loop-value : goal.invariant-loop-value

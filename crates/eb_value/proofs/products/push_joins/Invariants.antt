@@ -1,6 +1,6 @@
 use Rattle.std.proofs.Common.{◌≡◌, ◌++◌, take}
 use Rattle.std.specs.List.{filter_map}
-use Rattle.eb_value.specs.Joins as step
+use Rattle.eb_value.specs.steps.Joins as step
 use Rattle.eb_value.proofs.products.push_joins.Given as goal
 
 abbrev pub invariant-loop-other : goal.invariant-loop-other

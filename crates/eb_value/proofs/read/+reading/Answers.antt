@@ -1,6 +1,6 @@
 use Rattle.std.proofs.Common.{◌≡◌, ◌∙◌, ◌+◌, ◌++◌, ◌∷◌, [], Some, None, true, false, drop, ap, sym}
 use Rattle.std.proofs.lemmas.Result.{err_from_is_err_and}
-use Rattle.eb_value.specs.Reading as spec
+use Rattle.eb_value.specs.steps.Reading as spec
 use Rattle.eb_value.specs.Values.{set}
 use Rattle.eb_value.proofs.ReadingSteps.{member_fails, member_then}
 use Rattle.eb_value.proofs.read.+reading.Goals as goal

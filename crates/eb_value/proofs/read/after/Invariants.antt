@@ -1,5 +1,5 @@
 use Rattle.std.proofs.Common.{◌≡◌, drop}
-use Rattle.eb_value.specs.Reading as spec
+use Rattle.eb_value.specs.steps.Reading as spec
 use Rattle.eb_value.proofs.read.after.Given as goal
 
 abbrev pub invariant-loop-byte : goal.invariant-loop-byte

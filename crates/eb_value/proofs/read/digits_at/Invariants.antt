@@ -1,5 +1,5 @@
 use Rattle.std.proofs.Common.{◌≡◌, length}
-use Rattle.eb_value.specs.Reading as spec
+use Rattle.eb_value.specs.steps.Reading as spec
 use Rattle.eb_value.proofs.read.digits_at.Given as goal
 
 abbrev pub invariant-loop-rest : goal.invariant-loop-rest

@@ -1,6 +1,6 @@
 use Rattle.std.proofs.Common.{rules, ◌≡◌, Some, false, nat_eq, subst}
 use Rattle.std.specs.Cmp.Lexicographic.{pointwise}
-use Rattle.eb_value.specs.Reading.{value_at}
+use Rattle.eb_value.specs.steps.Reading.{value_at}
 use Rattle.eb_value.specs.Texts.{value_text}
 use Rattle.eb_value.proofs.ReadingSteps.{not_printed}
 use Rattle.eb_value.proofs.read.whole_value.Goals as goal

@@ -1,7 +1,7 @@
 use Rattle.std.proofs.Common.{◌≡◌, subst, rules}
 use Rattle.std.specs.List.{Contains, filter_map}
 use Rattle.eb_value.specs.Sets.{IsSetOf}
-use Rattle.eb_value.specs.Joins
+use Rattle.eb_value.specs.steps.Joins
 use Rattle.eb_value.specs.declared.relations.Part.TheVariants as part
 use Rattle.eb_value.proofs.RelationLaws.{inverse_set}
 use Rattle.eb_value.proofs.relations.inverse.Goals as goal

@@ -1,6 +1,6 @@
 use Rattle.std.proofs.Common.{◌≡◌, filter, take}
-use Rattle.eb_value.specs.Joins as step
-use Rattle.eb_value.specs.Merges.{second_of}
+use Rattle.eb_value.specs.steps.Joins as step
+use Rattle.eb_value.specs.steps.Merges.{second_of}
 use Rattle.eb_value.proofs.relations.kept_by_second.Given as goal
 
 abbrev pub invariant-loop-value : goal.invariant-loop-value

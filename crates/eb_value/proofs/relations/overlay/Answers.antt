@@ -2,7 +2,7 @@ use Rattle.std.proofs.Common.{rules, ◌∙◌, ap, sym, subst}
 use Rattle.std.proofs.lemmas.Result.{IfOk-weaker}
 use Rattle.eb_value.specs.Sets.{IsSetOf, InUnion}
 use Rattle.eb_value.specs.Relations as spec
-use Rattle.eb_value.specs.Merges.{merged}
+use Rattle.eb_value.specs.steps.Merges.{merged}
 use Rattle.eb_value.proofs.MergeLaws.{merged_set}
 use Rattle.eb_value.proofs.RelationLaws.{overlay_set}
 use Rattle.eb_value.proofs.relations.overlay.Goals as goal

@@ -1,14 +1,14 @@
 use Rattle.std.proofs.Common.{◌≡◌, ◌≤◌, ◌+◌, length}
-use Rattle.tree_checker.specs.Checking as checking
+use Rattle.tree_checker.specs.steps.Checking as checking
 use Rattle.tree_checker.specs.Texts.{task_of}
-use Rattle.tree_checker.specs.Machine as spec
+use Rattle.tree_checker.specs.steps.Machine as spec
 use Rattle.tree_checker.proofs.text.run.Given as goal
 
 abbrev pub invariant-loop-line : goal.invariant-loop-line
 invariant-loop-line l = record {
   few_lines : l.number + length l.rest ≤ length l.text + 1;
   few_opens : l.checker.opens + 1 ≤ l.number;
-  verdict : spec.text_verdict l.problem l.first l.text ≡ spec.text_rest l.problem (task_of l.problem l.first) l.number (checking.state_of l.checker) l.rest;
+  verdict : (reader : spec.Reader l.problem) → spec.text_verdict reader.read l.problem l.first l.text ≡ spec.text_rest reader.read (task_of l.problem l.first) l.number (checking.state_of l.checker) l.rest;
 }
 
 abbrev pub decreases-loop-line : goal.decreases-loop-line

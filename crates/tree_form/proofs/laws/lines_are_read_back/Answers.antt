@@ -1,5 +1,6 @@
 use Rattle.std.proofs.Common.{◌∙◌, sym}
-use Rattle.tree_form.proofs.LineLaws.{one_line, reading_only}
+use Rattle.tree_form.specs.steps.Reading.{reading}
+use Rattle.tree_form.proofs.LineLaws.{one_line, reading_is, reading_only}
 use Rattle.tree_form.proofs.laws.lines_are_read_back.Goals as goal
 
 pub returns-clause-one : goal.returns-clause-one
@@ -7,3 +8,6 @@ returns-clause-one c = λ problem text first second a b. sym (reading_only probl
 
 pub returns-clause-line : goal.returns-clause-line
 returns-clause-line c = λ text first second a b. one_line text first second a b
+
+pub returns-clause-some : goal.returns-clause-some
+returns-clause-some c = λ problem text. (reading problem text, reading_is problem text)

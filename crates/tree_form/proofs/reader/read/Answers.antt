@@ -1,5 +1,5 @@
 use Rattle.std.proofs.Common.{rules, ◌≡◌, sym, Some}
-use Rattle.tree_form.specs.Reading as spec
+use Rattle.tree_form.specs.steps.Reading as spec
 use Rattle.tree_form.proofs.LineLaws.{word_read}
 use Rattle.tree_form.proofs.reader.read.Goals as goal
 

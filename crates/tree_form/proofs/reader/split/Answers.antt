@@ -1,7 +1,7 @@
 use Rattle.std.proofs.Common.{rules, ◌≡◌, refl, Some, None}
 use Rattle.std.specs.Prelude.{slice_get}
 use Rattle.tree_form.specs.declared.line.Line.TheVariants as line
-use Rattle.tree_form.specs.Reading as spec
+use Rattle.tree_form.specs.steps.Reading as spec
 use Rattle.tree_form.proofs.LineLaws.{beyond}
 use Rattle.tree_form.proofs.reader.split.Goals as goal
 

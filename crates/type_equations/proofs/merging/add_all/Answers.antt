@@ -4,7 +4,7 @@ use Rattle.type_equations.specs.declared.equation.Equation.{Equation}
 use Rattle.type_equations.specs.declared.equation.Equation.TheVariants.{Same}
 use Rattle.type_equations.specs.Equations.{IsBelow, Holds, HaveNone}
 use Rattle.type_equations.specs.Faults.{OnFault}
-use Rattle.type_equations.specs.Merging.{Refutes, Differ}
+use Rattle.type_equations.specs.steps.Merging.{Refutes, Differ}
 use Rattle.type_equations.proofs.Faulting.{refused}
 use Rattle.type_equations.proofs.UnifyLaws.{Turn, turn_more, turn_refuted, turn_differs, below_at}
 use Rattle.type_equations.proofs.merging.add_all.Goals as goal

@@ -1,5 +1,5 @@
 use Rattle.std.proofs.Common.{◌≡◌, [], length, take}
-use Rattle.type_equations.specs.Merging.{Says}
+use Rattle.type_equations.specs.steps.Merging.{Says}
 use Rattle.type_equations.proofs.merging.add_all.Given as goal
 
 abbrev pub invariant-loop-equation : goal.invariant-loop-equation

@@ -1,5 +1,5 @@
 use Rattle.std.proofs.Common.{rules}
-use Rattle.type_equations.specs.Merging.{Gives, merge}
+use Rattle.type_equations.specs.steps.Merging.{Gives, merge}
 use Rattle.type_equations.specs.Stores.{entry_at}
 use Rattle.type_equations.proofs.MergeSteps.{links}
 use Rattle.type_equations.proofs.merging.link.Goals as goal

@@ -1,7 +1,7 @@
 use Rattle.std.proofs.Common.{◌+◌, ◌*◌, length}
 use Rattle.std.specs.Prelude.{⊤}
 use Rattle.type_equations.specs.Stores.{roots}
-use Rattle.type_equations.specs.Merging.{Steps}
+use Rattle.type_equations.specs.steps.Merging.{Steps}
 use Rattle.type_equations.proofs.merging.unify.Given as goal
 
 abbrev pub invariant-loop-first : goal.invariant-loop-first

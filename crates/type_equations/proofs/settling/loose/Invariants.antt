@@ -1,4 +1,4 @@
-use Rattle.type_equations.specs.Settling.{AreFixed}
+use Rattle.type_equations.specs.steps.Settling.{AreFixed}
 use Rattle.type_equations.proofs.settling.loose.Given as goal
 
 abbrev pub invariant-loop-number : goal.invariant-loop-number

@@ -1,6 +1,6 @@
 use Rattle.std.proofs.Common.{length}
 use Rattle.eb_value.specs.Types.{integer}
-use Rattle.type_equations.specs.Sizes.{weight}
+use Rattle.type_equations.specs.steps.Sizes.{weight}
 use Rattle.type_equations.specs.Solutions.{type_at}
 use Rattle.type_equations.proofs.solution.+written.Given as goal
 

@@ -1,5 +1,5 @@
 use Rattle.std.proofs.Common.{drop}
-use Rattle.eb_infer.specs.Generating as spec
+use Rattle.eb_infer.specs.steps.Generating as spec
 use Rattle.eb_infer.specs.Models as models
 use Rattle.eb_infer.proofs.ModelLaws.{Assigned}
 use Rattle.eb_infer.proofs.model.Walker.becomes_equal.Given as goal

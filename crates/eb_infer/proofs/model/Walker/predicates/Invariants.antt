@@ -1,5 +1,5 @@
 use Rattle.std.proofs.Common.{◌≡◌, take}
-use Rattle.eb_infer.specs.Generating as spec
+use Rattle.eb_infer.specs.steps.Generating as spec
 use Rattle.eb_infer.specs.Models as models
 use Rattle.eb_infer.proofs.model.Walker.predicates.Given as goal
 

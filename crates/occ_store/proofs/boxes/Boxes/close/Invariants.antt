@@ -1,5 +1,6 @@
 use Rattle.std.proofs.Common.{◌≡◌, length, reverse}
-use Rattle.occ_store.specs.Boxes.{after_first, boxes_from}
+use Rattle.occ_store.specs.Boxes.{after_first}
+use Rattle.occ_store.specs.steps.Changes.{boxes_from}
 use Rattle.occ_store.proofs.boxes.Boxes.close.Given as goal
 
 abbrev pub invariant-loop-change : goal.invariant-loop-change

@@ -5,4 +5,4 @@ use Rattle.occ_store.proofs.store.Store.first.Goals as goal
 
 pub returns : goal.returns
 returns c =
-    subst (IsFirst c.args.scope.now c.args.choices.now) (sym c.in_ok-domains.ensures) (first_is c.args.scope.now c.args.choices.now c.requires.integers)
+    subst (IsFirst c.args.scope.now c.args.choices.now) (sym c.in_ok-domains.ensures) (first_is c.integers_lie_within_bounds.ensures c.args.scope.now c.args.choices.now c.requires.integers)

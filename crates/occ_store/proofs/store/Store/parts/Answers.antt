@@ -1,7 +1,7 @@
 use Rattle.std.proofs.Common.{rules, ◌≡◌, Some, None, ap, slice_get}
 use Rattle.int_dom.specs.Intervals as interval
 use Rattle.occ_store.specs.Places.{passes}
-use Rattle.occ_store.specs.Parts.{both}
+use Rattle.occ_store.specs.steps.Parts.{both}
 use Rattle.occ_store.proofs.Parts.{both_parts}
 use Rattle.occ_store.proofs.store.Store.parts.Goals as goal
 

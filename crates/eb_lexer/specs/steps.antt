@@ -1,0 +1,2 @@
+pub mod SignTables
+pub mod Lexing

@@ -1,8 +1,0 @@
-use Rattle.std.proofs.Common.{◌≡◌, ◌++◌, ◌∷◌, take}
-use Rattle.std.specs.List.{flat_map}
-use Rattle.eb_lexer.specs.declared.token.Sign.TheVariants as signs
-use Rattle.eb_parser.specs.Spelling.{sign, kinds_of}
-use Rattle.eb_parser.proofs.spelling.+writing.Given as goal
-
-abbrev pub invariant-row-loop-member : goal.invariant-row-loop-member
-invariant-row-loop-member l = l.out ≡ l.initial.out ++ flat_map (λ a. sign signs.Comma ∷ kinds_of a) (take l.member-index l.others)

@@ -1,9 +1,0 @@
-use Rattle.std.proofs.Common.{◌≡◌, ◌++◌, [], ◌∷◌, take}
-use Rattle.std.specs.List.{flat_map}
-use Rattle.eb_lexer.specs.declared.token.TokenKind.TheVariants as kind
-use Rattle.eb_lexer.specs.declared.token.Sign.TheVariants as signs
-use Rattle.eb_parser.specs.Spelling.{sign}
-use Rattle.eb_parser.proofs.spelling.names.Given as goal
-
-abbrev pub invariant-loop-name : goal.invariant-loop-name
-invariant-loop-name l = l.out ≡ l.initial.out ++ flat_map (λ y. sign signs.Comma ∷ kind.Word y.name ∷ []) (take l.name-index l.others)

@@ -1,0 +1,10 @@
+-- Sets of names.
+use Rattle.std.specs.Prelude.{ℕ, Bool, List}
+use Rattle.std.specs.Borrow.{Bor}
+use Rattle.std.specs.Ordering.{nat_cmp}
+use Rattle.std.specs.Cmp.Lexicographic.{slice_cmp}
+use Rattle.std.specs.BTreeSet.{BTreeSet, contains_by}
+
+-- the set has this name
+abbrev pub has_text : BTreeSet (Bor (List ℕ)) → List ℕ → Bool
+has_text names name = contains_by (λ k. slice_cmp nat_cmp name k.now) names

@@ -1,0 +1,4 @@
+pub mod SpellingLaws
+pub mod SpellingSteps
+pub mod Respelling
+pub mod FormulaLaws

@@ -1,0 +1,5 @@
+mod lines;
+mod outside;
+mod stores;
+mod truths;
+mod words;
