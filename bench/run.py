@@ -92,6 +92,61 @@ def unit_rows():
     yield "20,000 contexts in a chain", "context C0 end\n" + chain
 
 
+def joined(predicates):
+    """Their conjunction, no higher than 90."""
+    while len(predicates) > 1:
+        predicates = ["(" + " & ".join(predicates[k : k + 28]) + ")" for k in range(0, len(predicates), 28)]
+    return predicates[0]
+
+
+def hostile_rows():
+    """Lawful texts, and texts refused for a name, in which a search through a list for each name would be quadratic."""
+    count = 32_000
+    first = "context C0 constants n0 axioms @a n0 = 0 end\n"
+    for name, used in (("next", lambda k: k - 1), ("first", lambda k: 0), ("middle", lambda k: k // 2)):
+        chain = "".join(
+            f"context C{k} extends C{k - 1} constants n{k} axioms @a n{k} = n{used(k)} + 1 end\n" for k in range(1, count)
+        )
+        yield f"chain of 32,000, {name} constants", first + chain
+    names = [f"p{k}" for k in range(40_000)]
+    guards = " ".join(f"@g{k} {x} = {k}" for k, x in enumerate(names))
+    start = "machine M variables v invariants @i v : INT events event INITIALISATION then @a v := 0 end\n"
+    yield "40,000 parameters of one event", f"{start}event e any {' '.join(names)} where {guards} then @b v := 1 end end\n"
+    forty = " ".join(["C"] * 40)
+    yield "40,000 contexts C, 40 times seen", "context C end\n" * 40_000 + f"machine M sees {forty} end\n"
+    yield "40,000 contexts C, each extends 40 C", f"context C extends {forty} end\n" * 40_000
+    bound = ",".join(f"x{k}" for k in range(80_000))
+    yield "80,000 names of one quantifier", f"context C constants c axioms @a c = 1 & (!{bound}.{{{bound}}} = {{1}}) end\n"
+    yield "80,000 names of one {E|P}", f"context C constants c axioms @a c = 1 & {{{{{bound}}}|x0 = 1}} = {{{{1}}}} end\n"
+    left = ",".join(f"v{k}" for k in range(20_000))
+    after = joined([f"v{k}' = 0" for k in range(20_000)])
+    integers = " ".join(f"@i{k} v{k} : INT" for k in range(20_000))
+    zeros = " ".join(f"@a{k} v{k} := 0" for k in range(20_000))
+    yield "20,000 variables left of one :|", (
+        f"machine M variables {left} invariants {integers} events event INITIALISATION then {zeros} end\n"
+        f"event e then @a {left} :| {after} end end\n"
+    )
+    inner = "{" + ",".join(["c"] * 500_000) + "}"
+    quantified = "".join(f"(!y{k}." for k in range(60)) + f"{inner} = {{1}}" + ")" * 60
+    yield "500,000 uses behind 60 quantifiers", f"context C constants c axioms @a c = 1 & {quantified} end\n"
+
+
+def type_rows():
+    """Texts of 4 MiB that are dense in operators and literals, and one with a type that is too deep to write out."""
+    size = 4 << 20
+
+    def filled(declared, axioms):
+        return f"context C constants {declared} axioms {axioms} end\n"
+
+    axiom = "@a{} c = " + " + ".join(["1"] * 190) + "\n"
+    yield "4 MiB of 1 + 1 + ..", filled("c", "".join(axiom.format(k) for k in range(size // (len(axiom) + 3))))
+    yield "4 MiB of {-1, ..}", filled("c", "@a c = {" + ", ".join(["-1"] * (size // 4 - 20)) + "}")
+    yield "4 MiB of one-letter names", filled("c, d", "@a d = {" + ", ".join(["c"] * (size // 3 - 30)) + "} & c = 1")
+    yield "4 MiB of {f||f, ..}", filled("d, f", "@a d = {" + ", ".join(["f||f"] * (size // 6 - 30)) + "} & f = {1 |-> TRUE}")
+    deep = ["@a0 x0 = 0"] + [f"@a{k} x{k} = x{k - 1}" + " |-> 0" * 170 for k in range(1, 301)]
+    yield "a type 51,000 deep", filled(", ".join(f"x{k}" for k in range(301)), " ".join(deep))
+
+
 def timed(words, to=None):
     start = time.monotonic()
     child = subprocess.Popen(words, stdout=subprocess.PIPE)
@@ -144,7 +199,7 @@ def main():
             file.write(text)
             file.flush()
             show(name, timed([program, "solve", file.name]))
-    for name, text in unit_rows():
+    for name, text in (*unit_rows(), *hostile_rows(), *type_rows()):
         with tempfile.NamedTemporaryFile("w", suffix=".eb") as file:
             file.write(text)
             file.flush()
@@ -159,6 +214,7 @@ def main():
         ("values", "all sets of 16 atoms, 65,536 values"),
         ("union", "union of relations of 4,000 pairs"),
         ("compose", "composition of the same"),
+        ("dense", "composition of 128 by 128 pairs"),
     ):
         show(name, timed([operators, operator]))
 
