@@ -215,6 +215,7 @@ def main():
         ("union", "union of relations of 4,000 pairs"),
         ("compose", "composition of the same"),
         ("dense", "composition of 128 by 128 pairs"),
+        ("family", "union of 1,000 sets, 500,500 members"),
     ):
         show(name, timed([operators, operator]))
 

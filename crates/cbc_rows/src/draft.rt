@@ -23,16 +23,11 @@ enum Place {
 /// A record of which the last lines are yet to come.
 #[derive(Drop)]
 pub struct Draft {
-    name: String,
-    words: Option<Names>,
-    files: NamedFiles,
-    failing_reads: Calls,
-    failing_writes: Calls,
-    room: usize,
-    is_slow: bool,
+    record: Record,
+    /// Whether the words were said.
+    has_words: bool,
     /// The outputs of which one is wanted.
     prints: Vec<Bytes>,
-    wants: Vec<Want>,
     status: Option<u8>,
     /// The text that was begun last, and its bytes so far.
     place: Option<Place>,
@@ -42,16 +37,15 @@ pub struct Draft {
 impl Draft {
     /// A record of which nothing but the name has come.
     pub fn new(alloc: Global, name: &str) -> Result<Draft, AllocError> {
+        let name = String::from_str(alloc, name)?;
         Ok(Draft {
-            name: String::from_str(alloc, name)?,
-            words: None,
-            files: NamedFiles::new(alloc),
-            failing_reads: Calls::new(alloc),
-            failing_writes: Calls::new(alloc),
-            room: ROOM,
-            is_slow: false,
+            record: Record {
+                name,
+                given: nothing_given(alloc),
+                wants: Vec::new(alloc),
+            },
+            has_words: false,
             prints: Vec::new(alloc),
-            wants: Vec::new(alloc),
             status: None,
             place: None,
             text: Vec::new(alloc),
@@ -109,10 +103,10 @@ impl Draft {
     fn end_text(&mut self, alloc: Global) -> Result<(), Fault> {
         let text = Bytes::from_vec(mem::replace(&mut self.text, Vec::new(alloc)));
         match self.place.take() {
-            Some(Place::File(name)) => self.files.push((name, text))?,
+            Some(Place::File(name)) => self.record.given.files.push((name, text))?,
             Some(Place::Prints) => self.prints.push(text)?,
-            Some(Place::Begins) => self.wants.push(Want::Begins(text))?,
-            Some(Place::Ends) => self.wants.push(Want::Ends(text))?,
+            Some(Place::Begins) => self.record.wants.push(Want::Begins(text))?,
+            Some(Place::Ends) => self.record.wants.push(Want::Ends(text))?,
             None => {}
         }
         Ok(())
@@ -148,7 +142,7 @@ impl Draft {
 
     /// The place of the text of a file that stands once.
     fn only_file(&self, alloc: Global, name: &str) -> Result<Place, Fault> {
-        if has_file(&self.files, name) {
+        if has_file(&self.record.given.files, name) {
             return Err(Fault::Twice);
         }
         Ok(Place::File(Name::new(alloc, name)?))
@@ -156,16 +150,26 @@ impl Draft {
 
     /// Takes a line that says what the run is given.
     fn give(&mut self, alloc: Global, part: &str, rest: &str) -> Result<(), Fault> {
+        let given = &mut self.record.given;
         match part {
-            "words" if self.words.is_some() => return Err(Fault::Twice),
-            "words" => self.words = Some(words_of(alloc, rest)?),
-            "reads" => self.failing_reads = calls_of(alloc, rest)?,
-            "writes" => self.failing_writes = calls_of(alloc, rest)?,
-            "room" => self.room = number_of(rest)?,
-            "slowly" if rest.is_empty() => self.is_slow = true,
+            "words" => return self.give_words(alloc, rest),
+            "reads" => given.failing_reads = calls_of(alloc, rest)?,
+            "writes" => given.failing_writes = calls_of(alloc, rest)?,
+            "room" => given.room = number_of(rest)?,
+            "slowly" if rest.is_empty() => given.is_slow = true,
             "slowly" => return Err(Fault::BadArgument),
             _ => return Err(Fault::UnknownPart),
         }
+        Ok(())
+    }
+
+    /// Takes the words, which are said once.
+    fn give_words(&mut self, alloc: Global, rest: &str) -> Result<(), Fault> {
+        if self.has_words {
+            return Err(Fault::Twice);
+        }
+        self.has_words = true;
+        self.record.given.words = words_of(alloc, rest)?;
         Ok(())
     }
 
@@ -175,7 +179,7 @@ impl Draft {
             return self.want_status(rest);
         }
         let want = want_of(alloc, part, rest)?;
-        self.wants.push(want)?;
+        self.record.wants.push(want)?;
         Ok(())
     }
 
@@ -187,45 +191,49 @@ impl Draft {
         Ok(())
     }
 
+    /// Wants one of the outputs, where some are said, and the status.
+    fn end_wants(&mut self, alloc: Global) -> Result<(), Fault> {
+        let Some(status) = self.status else {
+            return Err(Fault::NoStatus);
+        };
+        let prints = mem::replace(&mut self.prints, Vec::new(alloc));
+        if !prints.is_empty() {
+            self.record.wants.push(Want::Prints(prints))?;
+        }
+        self.record.wants.push(Want::Status(status))?;
+        Ok(())
+    }
+
+    /// Gives the usual words where none were said. A verdict is by a model.
+    fn end_words(&mut self, alloc: Global) -> Result<(), Fault> {
+        if has_judged(self.record.wants.as_slice()) && !has_file(&self.record.given.files, "m") {
+            return Err(Fault::NoModel);
+        }
+        if !self.has_words {
+            self.record.given.words = words_of(alloc, usual_words(&self.record.given.files))?;
+        }
+        Ok(())
+    }
+
     /// The whole record.
     pub fn end(mut self, alloc: Global) -> Result<Record, Fault> {
         self.end_text(alloc)?;
-        let Draft {
-            name,
-            words,
-            files,
-            failing_reads,
-            failing_writes,
-            room,
-            is_slow,
-            prints,
-            mut wants,
-            status,
-            ..
-        } = self;
-        let Some(status) = status else {
-            return Err(Fault::NoStatus);
-        };
-        if !prints.is_empty() {
-            wants.push(Want::Prints(prints))?;
-        }
-        wants.push(Want::Status(status))?;
-        if has_judged(wants.as_slice()) && !has_file(&files, "m") {
-            return Err(Fault::NoModel);
-        }
-        let words = match words {
-            Some(words) => words,
-            None => words_of(alloc, usual_words(&files))?,
-        };
-        let given = Given {
-            words,
-            files,
-            failing_reads,
-            failing_writes,
-            room,
-            is_slow,
-        };
-        Ok(Record { name, given, wants })
+        self.end_wants(alloc)?;
+        self.end_words(alloc)?;
+        let Draft { record, .. } = self;
+        Ok(record)
+    }
+}
+
+/// No words and no files, and a room that takes all.
+fn nothing_given(alloc: Global) -> Given {
+    Given {
+        words: Names::new(alloc),
+        files: NamedFiles::new(alloc),
+        failing_reads: Calls::new(alloc),
+        failing_writes: Calls::new(alloc),
+        room: ROOM,
+        is_slow: false,
     }
 }
 

@@ -9,13 +9,13 @@
 //!
 //! ```text
 //! == NAME                 one name a record, of its own in its file
-//! -- words W1 W2 ..       the words behind the program's name, parted by single blanks; with no words, none. Where this line
+//! -- words WORD WORD ..   the words behind the program's name, parted by single blanks; with no words, none. Where this line
 //!                         is left out they are `solve m`, or `check m t` where there is a tree
 //! -- model                the text of the file `m` follows
 //! -- tree                 the text of the file `t` follows
 //! -- file NAME            the text of another file follows. Of a name that stands again the first counts
-//! -- reads K1 K2 ..       the numbers of the source's calls that fail, from 1; opening and reading count together
-//! -- writes K1 K2 ..      the numbers of the sink's calls that fail
+//! -- reads NUMBER ..      the numbers of the source's calls that fail, from 1; opening and reading count together
+//! -- writes NUMBER ..     the numbers of the sink's calls that fail
 //! -- room N               how many bytes the sink takes; where this line is left out, 4 MiB
 //! -- slowly               the source and the sink take one byte a call
 //! -- status N             the exit status, 0 to 6, that is due. Each record has this line

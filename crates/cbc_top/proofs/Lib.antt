@@ -1,8 +1,2 @@
-pub mod Bools
-pub mod TextLaws
-pub mod Narrowing
-pub mod Witnesses
 pub mod Runs
-pub mod TreeTexts
-pub mod PrintedVerdicts
 pub mod Joins

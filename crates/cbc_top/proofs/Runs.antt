@@ -7,16 +7,17 @@ use Rattle.cbc_words.specs.declared.action.Action.{Action}
 use Rattle.cbc_words.specs.declared.action.Action.TheVariants as action
 use Rattle.cbc_words.specs.declared.action.Command.{Command}
 use Rattle.linear_models.specs.declared.syntax.LinearModel.{LinearModel}
-use Rattle.cbc_top.specs.declared.status.Status.{Status}
-use Rattle.cbc_top.specs.declared.status.Status.TheVariants.{Refused, WriteFault, Memory}
-use Rattle.cbc_top.specs.declared.refusal.Refusal.{Refusal}
-use Rattle.cbc_top.specs.declared.refusal.Refusal.TheVariants.{NotYet}
+use Rattle.cbc_answers.specs.declared.status.Status.{Status}
+use Rattle.cbc_answers.specs.declared.status.Status.TheVariants.{Refused, WriteFault, Memory}
+use Rattle.cbc_answers.specs.declared.refusal.Refusal.{Refusal}
+use Rattle.cbc_answers.specs.declared.refusal.Refusal.TheVariants.{NotYet}
 use Rattle.cbc_top.specs.declared.stop.Stop.{Stop}
 use Rattle.cbc_top.specs.declared.stop.Stop.TheVariants as stop
 use Rattle.cbc_top.specs.ModelFiles.{IsNextOf}
 use Rattle.cbc_top.specs.Opening.{HasRead}
-use Rattle.cbc_top.specs.Answers.{IsJudged}
-use Rattle.cbc_top.specs.Run.{IsAnswered, refusal_text, OpensNext, IsNext, OnModel, IsSolved, IsWithoutTree, Completes, Ends, Begins, Ran}
+use Rattle.cbc_answers.specs.Answers.{IsJudged}
+use Rattle.cbc_answers.specs.Refusals.{refusal_text}
+use Rattle.cbc_top.specs.Run.{IsAnswered, OpensNext, IsNext, OnModel, IsSolved, IsWithoutTree, Completes, Ends, Begins, Ran}
 use Rattle.cbc_top.specs.steps.Reads.{RefusesModel, ReadsModel, ReadsTree}
 use Rattle.cbc_top.specs.steps.Due.{Reads, DueAt, Says}
 use Rattle.cbc_top.proofs.Joins.{one_more, has_read_under, has_failed_under}

@@ -1,7 +1,4 @@
 -- The contracts of public functions lead to these. What only private functions cite stands in `steps`.
-pub mod Texts
-pub mod Models
-pub mod Answers
 pub mod ModelFiles
 pub mod Opening
 pub mod Run

@@ -1,19 +1,20 @@
 -- What a run reads and writes, and how it ends.
-use Rattle.std.specs.Prelude.{◌≡◌, ◌⊎◌, ⊤, ℕ, ◌<◌, ◌≤◌, List, [], ◌∷◌, ◌++◌, length, codes, decimal, Option, Some, None}
+use Rattle.std.specs.Prelude.{◌≡◌, ◌⊎◌, ⊤, ℕ, ◌<◌, ◌≤◌, List, [], ◌∷◌, ◌++◌, length, Option, Some, None}
 use Rattle.std.specs.Io.KnownBytes.{Appends}
 use Rattle.cbc_outside.specs.Outside.{Files, Rose}
-use Rattle.cbc_top.specs.declared.status.Status.{Status}
-use Rattle.cbc_top.specs.declared.status.Status.TheVariants.{Decided, Refused, ReadFault, WriteFault, Memory}
-use Rattle.cbc_top.specs.declared.refusal.Refusal.{Refusal}
-use Rattle.cbc_top.specs.declared.refusal.Refusal.TheVariants.{Words, TooLong, NotUtf8, BadToken, TooDeep, Syntax, Unsupported, DuplicateName, UnknownName, TypeClash, TypeOpen, NotYet}
+use Rattle.cbc_answers.specs.declared.status.Status.{Status}
+use Rattle.cbc_answers.specs.declared.status.Status.TheVariants.{Decided, Refused, ReadFault, WriteFault, Memory}
+use Rattle.cbc_answers.specs.declared.refusal.Refusal.{Refusal}
+use Rattle.cbc_answers.specs.declared.refusal.Refusal.TheVariants.{Words, TooLong, NotYet}
 use Rattle.cbc_words.specs.declared.action.Action.{Action}
 use Rattle.cbc_words.specs.declared.action.Action.TheVariants as action
 use Rattle.cbc_words.specs.declared.action.Command.{Command}
 use Rattle.linear_models.specs.declared.syntax.LinearModel.{LinearModel}
-use Rattle.cbc_top.specs.Texts.{IsText, RefusesText}
+use Rattle.cbc_answers.specs.Texts.{IsText, RefusesText}
+use Rattle.cbc_answers.specs.Refusals.{refusal_text}
 use Rattle.cbc_top.specs.ModelFiles.{joined, IsNextOf, AreAll, AreTooLong}
 use Rattle.cbc_top.specs.Opening.{HasRead}
-use Rattle.cbc_top.specs.Answers.{IsAnswer, IsJudged}
+use Rattle.cbc_answers.specs.Answers.{IsAnswer, IsJudged}
 
 -- no fault and no want of memory ended the run
 abbrev pub IsAnswered : Status → Type 0
@@ -22,29 +23,7 @@ IsAnswered WriteFault = ⊥
 IsAnswered Memory = ⊥
 IsAnswered _ = ⊤
 
--- the line of a refusal at a place, in bytes
-abbrev pub place_text : List ℕ → ℕ → List ℕ
-place_text front place = front ++ (decimal place ++ codes "\n")
-
--- the line of a refusal of a name
-abbrev pub name_text : List ℕ → List ℕ → List ℕ
-name_text front name = front ++ (name ++ codes "\n")
-
--- the line of a refusal
-abbrev pub refusal_text : Refusal → List ℕ
-refusal_text Words = codes "refused E14 Words\n"
-refusal_text TooLong = codes "refused E13 TooLong\n"
-refusal_text NotUtf8 = codes "refused E1 NotUtf8\n"
-refusal_text (BadToken place) = place_text (codes "refused E2 BadToken ") place
-refusal_text TooDeep = codes "refused E4 TooDeep\n"
-refusal_text (Syntax place) = place_text (codes "refused E3 Syntax ") place
-refusal_text (Unsupported place) = place_text (codes "refused E12 Unsupported ") place
-refusal_text (DuplicateName name) = name_text (codes "refused E6 DuplicateName ") name
-refusal_text (UnknownName name) = name_text (codes "refused E5 UnknownName ") name
-refusal_text TypeClash = codes "refused E7 TypeClash\n"
-refusal_text TypeOpen = codes "refused E8 TypeOpen\n"
-refusal_text NotYet = codes "refused E15 NotYet\n"
-
+-- the line of this refusal
 abbrev pub IsRefusal : Refusal → List ℕ → Status → Type 0
 IsRefusal refusal bytes status = (bytes ≡ refusal_text refusal) × (status ≡ Refused)
 

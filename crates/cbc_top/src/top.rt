@@ -2,25 +2,19 @@ ghost use Rattle.std.specs.Prelude.{◌≡◌, ◌⊎◌, ℕ, true, ◌<◌, �
 ghost use Rattle.linear_models.specs.Language.{is_well_formed};
 ghost use Rattle.cbc_words.specs.Words.{command_of};
 ghost use Rattle.cbc_top.specs.Opening.{HasFailed};
-ghost use Rattle.cbc_top.specs.Answers as answers;
+ghost use Rattle.cbc_answers.specs.Texts.{IsReadable};
 ghost use Rattle.cbc_top.specs.Run as spec;
 ghost use Rattle.cbc_top.specs.steps.Due as due;
 ghost use Rattle.cbc_top.specs.steps.Reads as reads;
 
-use crate::answer::{found, judged, refuted, undecided};
 use crate::model_files::joined;
-use crate::problem::{problem_of, scope_of};
-use crate::refusal::Refusal;
-use crate::status::Status;
 use crate::stop::Stop;
-use crate::text::model_text;
-use branch_search::{Answer, search};
+use cbc_answers::{Refusal, Status, checked, model_text, solved};
 use cbc_outside::{ReadStop, Sink, Source, read_all, write_all};
 use cbc_words::{Action, WordsFault, command};
 use eb_names::{Bytes, Name, Names};
 use linear_models::LinearModel;
 use std::alloc::{AllocError, Global};
-use tree_checker::{Verdict, check_text};
 
 /// A tree file has no more bytes.
 const LONGEST_TREE: u64 = 16 << 20;
@@ -28,32 +22,9 @@ const LONGEST_TREE: u64 = 16 << 20;
 /// What is written, and the status after it.
 type Due = (Bytes, Status);
 
-/// The answer to the query of a text.
-fn solved(alloc: Global, text: &LinearModel, budget: u64) -> Result<Due, AllocError>
-    requires { is_well_formed text.now ≡ true }
-    ensures { IfOk result (λ d. answers.IsAnswer text.now budget d.0 d.1) }
-{
-    let problem = problem_of(alloc, text)?;
-    let scope = scope_of(alloc, text);
-    match search(alloc, &problem, &scope, budget)? {
-        Answer::Found(values) => {
-            let bytes = found(alloc, text.context.constants.as_slice(), values.as_slice())?;
-            Ok((bytes, Status::Decided))
-        }
-        Answer::Refuted(lines) => {
-            let bytes = refuted(alloc, lines.as_slice())?;
-            Ok((bytes, Status::Decided))
-        }
-        Answer::Undecided(lines) => {
-            let bytes = undecided(alloc, budget, lines.as_slice())?;
-            Ok((bytes, Status::Undecided))
-        }
-    }
-}
-
 /// The answers to the queries of a text.
 fn solved_text(alloc: Global, model: Option<LinearModel>, budget: u64) -> Result<Due, AllocError>
-    requires { due.IsReadable model }
+    requires { IsReadable model }
     ensures lawful { IfOk result (λ d. spec.IsSolved budget model d.0 d.1) }
     ensures answered { IfOk result (λ d. spec.IsAnswered d.1) }
 {
@@ -61,29 +32,6 @@ fn solved_text(alloc: Global, model: Option<LinearModel>, budget: u64) -> Result
         Some(text) => solved(alloc, &text, budget),
         None => Ok((Bytes::new(alloc), Status::Decided)),
     }
-}
-
-/// The status after a verdict.
-fn status_of(verdict: Verdict) -> Status
-    ensures { result ≡ answers.status_of verdict }
-{
-    match verdict {
-        Verdict::Accepted => Status::Decided,
-        Verdict::Partial(_) | Verdict::Refused(_, _) => Status::NotHeld,
-    }
-}
-
-/// The verdict on a tree for the problem of a text.
-fn checked(alloc: Global, text: &LinearModel, tree: &[u8]) -> Result<Due, AllocError>
-    requires well_formed { is_well_formed text.now ≡ true }
-    requires short { length tree.now ≤ 16777216 }
-    ensures { IfOk result (λ d. answers.IsJudged text.now tree.now d.0 d.1) }
-{
-    let problem = problem_of(alloc, text)?;
-    let scope = scope_of(alloc, text);
-    let verdict = check_text(alloc, &problem, &scope, tree)?;
-    let bytes = judged(alloc, verdict)?;
-    Ok((bytes, status_of(verdict)))
 }
 
 /// The model of some files.
@@ -94,11 +42,11 @@ fn model_in<S: Source>(
 ) -> Result<Option<LinearModel>, Stop>
     ensures same { S.files src.new ≡ S.files src.old }
     ensures read { reads.ReadsModel names.now (S.files src.old) (S.opened src.old) (S.opened src.new) (S.fault_name src.new) result }
-    ensures readable { IfOk result due.IsReadable }
+    ensures readable { IfOk result IsReadable }
     ensures fault { reads.IsFaultOf result (S.faults src.old) (S.faults src.new) }
 {
     match joined(alloc, src, names) {
-        Ok(text) => model_text(alloc, text.as_slice()),
+        Ok(text) => Ok(model_text(alloc, text.as_slice())?),
         Err(ReadStop::TooLong) => Err(Stop::Refused(Refusal::TooLong)),
         Err(ReadStop::Failed) => Err(Stop::ReadFault),
         Err(ReadStop::Memory) => Err(Stop::Memory),

@@ -1,11 +1,1 @@
-pub mod WalkLaws
-pub mod ModelLaws
-pub mod Solving
-pub mod Soundness
-pub mod Extending
-pub mod Completeness
-pub mod Marking
-pub mod Collecting
-pub mod Equations
-pub mod Bounds
-pub mod LayerLaws
+pub mod TypingLaws

@@ -1,4 +1,1 @@
-pub mod Numbering
-pub mod Typing
-pub mod Models
-pub mod steps
+pub mod Typings

@@ -2,11 +2,9 @@ pub mod Bools
 pub mod Runs
 pub mod Numbers
 pub mod Sizes
-pub mod TableLaws
 pub mod SignLaws
 pub mod TokenOf
 pub mod TokenLaws
 pub mod Spellings
 pub mod PieceLaws
 pub mod TextLaws
-pub mod SignTexts

@@ -7,10 +7,10 @@ use Rattle.std.specs.Str.{encode_utf8_all}
 use Rattle.std.proofs.lemmas.Bool.Decides.{nat_tests}
 use Rattle.std.proofs.lemmas.List.{append-nil}
 use Rattle.unicode_ident.proofs.Computing.{unicode_ident}
-use Rattle.eb_lexer.specs.declared.token.Sign.{Sign}
+use Rattle.eb_signs.specs.declared.sign.Sign.{Sign}
 use Rattle.eb_lexer.specs.declared.token.TokenKind.{TokenKind}
 use Rattle.eb_lexer.specs.declared.token.TokenKind.TheVariants as kind
-use Rattle.eb_lexer.specs.Signs.{sign_of}
+use Rattle.eb_signs.specs.Signs.{sign_of}
 use Rattle.eb_lexer.specs.Tokens.{starts_word, continues_word, continues_label, is_digit, is_identifier, is_label_text, is_number, number_on, Spells, IsLexeme, IsToken, begins_gap}
 use Rattle.eb_lexer.proofs.TokenOf.{number_token, label_token, word_token, token_of, is_lexeme}
 use Rattle.eb_lexer.proofs.Bools.{or_true, not_either, both_true}

@@ -10,13 +10,13 @@ use Rattle.std.proofs.lemmas.List.{take_at, drop_at, take-append-drop, length-ap
 use Rattle.std.proofs.lemmas.List.Sums.{take_while-cons}
 use Rattle.unicode_ident.specs.Ident.{is_xid_start}
 use Rattle.unicode_ident.proofs.IdentLemmas.{is_xid_start-ascii}
-use Rattle.eb_lexer.specs.declared.token.Sign.{Sign}
+use Rattle.eb_signs.specs.declared.sign.Sign.{Sign}
 use Rattle.eb_lexer.specs.declared.token.TokenKind.{TokenKind}
 use Rattle.eb_lexer.specs.declared.token.TokenKind.TheVariants as kind
-use Rattle.eb_lexer.specs.Signs.{sign_of}
+use Rattle.eb_signs.specs.Signs.{sign_of, reserved}
 use Rattle.eb_lexer.specs.Tokens.{starts_word, continues_word, continues_label, is_digit, is_number, is_sign_letter, number_on}
 use Rattle.eb_lexer.proofs.TokenOf.{is_lexeme, number_token, label_token, word_token, token_of}
-use Rattle.eb_lexer.specs.steps.Lexing.{token_at, word_at, word_step, number_at, number_of, label_at, sign_at, reserved}
+use Rattle.eb_lexer.specs.steps.Lexing.{token_at, word_at, word_step, number_at, number_of, label_at, sign_at}
 use Rattle.eb_lexer.proofs.Numbers.{number_of-large, number_of-small}
 use Rattle.eb_lexer.proofs.Bools.{is_same, and_false, or_true}
 use Rattle.eb_lexer.proofs.Runs.{Stops, take_run, run_passes, run_exact}

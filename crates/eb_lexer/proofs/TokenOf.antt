@@ -4,10 +4,10 @@ use Rattle.std.specs.Prelude.{take_while, Option, Some, None, pos, if◌then◌e
 use Rattle.std.specs.Option.{is_some, option_map}
 use Rattle.std.specs.List.{list_all}
 use Rattle.std.specs.Str.{encode_utf8_all}
-use Rattle.eb_lexer.specs.declared.token.Sign.{Sign}
+use Rattle.eb_signs.specs.declared.sign.Sign.{Sign}
 use Rattle.eb_lexer.specs.declared.token.TokenKind.{TokenKind}
 use Rattle.eb_lexer.specs.declared.token.TokenKind.TheVariants as kind
-use Rattle.eb_lexer.specs.Signs.{sign_of}
+use Rattle.eb_signs.specs.Signs.{sign_of}
 use Rattle.eb_lexer.specs.Tokens.{starts_word, continues_word, continues_label, is_digit, is_number, number_on}
 
 -- digits are a token up to 2 ^ 62

@@ -1,4 +1,3 @@
-pub mod Signs
 pub mod Tokens
 -- what only private functions cite: how the code goes on, as a means of proof
 pub mod steps

@@ -10,7 +10,8 @@ use Rattle.eb_lexer.specs.declared.token.TokenKind.TheVariants as kind
 use Rattle.eb_lexer.specs.declared.token.Token.{Token}
 use Rattle.eb_lexer.specs.declared.token.LexFault.{LexFault}
 use Rattle.eb_lexer.specs.declared.token.LexFault.TheVariants as fault
-use Rattle.eb_lexer.specs.Signs.{sign_of}
+use Rattle.eb_signs.specs.declared.sign.Sign.{Sign}
+use Rattle.eb_signs.specs.Signs.{sign_of, same_sign}
 
 -- λ, ℕ, ℙ, ℤ and the dot · are signs, and never part of an identifier
 abbrev pub is_sign_letter : ℕ → Bool
@@ -59,6 +60,11 @@ Spells (kind.Primed name) w = (v : List ℕ) × (w ≡ v ++ 39 ∷ []) × (is_id
 Spells (kind.Label name) w = (v : List ℕ) × (w ≡ 64 ∷ v) × (is_label_text v ≡ true) × (name ≡ encode_utf8_all v)
 Spells (kind.Number n) w = (is_number w ≡ true) × (number_on 0 w ≤ 2 ^ 62) × (n ≡ pos (number_on 0 w))
 Spells (kind.Sign s) w = sign_of w ≡ Some s
+
+-- whether the token is this sign
+abbrev pub is_kind : Sign → TokenKind → Bool
+is_kind sign (kind.Sign r) = same_sign r sign
+is_kind sign _ = false
 
 -- a token is written so, or it is a number that may be too large for one
 abbrev pub IsLexeme : List ℕ → Type 0

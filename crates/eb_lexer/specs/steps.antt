@@ -1,2 +1,1 @@
-pub mod SignTables
 pub mod Lexing

@@ -1,9 +1,7 @@
 //! What holds of the tokens of any text, for callers to cite.
 
-ghost use Rattle.std.specs.Prelude.{◌≡◌, ℕ, List, Some};
-ghost use Rattle.eb_lexer.specs.declared.token.Sign.{Sign};
+ghost use Rattle.std.specs.Prelude.{◌≡◌, ℕ, List};
 ghost use Rattle.eb_lexer.specs.declared.token.Token.{Token};
-ghost use Rattle.eb_lexer.specs.Signs as signs;
 ghost use Rattle.eb_lexer.specs.Tokens as spec;
 
 /// A text has at most one list of tokens, or at most one place at which no token begins, and never both.
@@ -16,9 +14,4 @@ pub fn a_text_is_read_in_one_way()
 /// The tokens of a text lie in it one behind another, and the bytes of each write it.
 pub fn tokens_name_slices()
     ensures { (ts : List Token) (text : List ℕ) → spec.IsTokens ts text → spec.LieFrom 0 text ts }
-{}
-
-/// The ASCII spelling of a sign is the spelling of no other sign.
-pub fn a_sign_is_spelled_by_its_text()
-    ensures { (sign : Sign) → signs.sign_of (signs.sign_text sign) ≡ Some sign }
 {}

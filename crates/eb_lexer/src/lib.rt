@@ -4,11 +4,9 @@
 mod laws;
 mod lexer;
 mod pieces;
-mod signs;
-mod text;
+mod symbols;
 mod token;
-mod words;
 
-pub use laws::{a_sign_is_spelled_by_its_text, a_text_is_read_in_one_way, tokens_name_slices};
+pub use laws::{a_text_is_read_in_one_way, tokens_name_slices};
 pub use lexer::tokens;
-pub use token::{LexFault, Sign, Token, TokenKind, Tokens};
+pub use token::{LexFault, Token, TokenKind, Tokens};

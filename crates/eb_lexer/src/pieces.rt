@@ -3,10 +3,10 @@ ghost use Rattle.std.specs.Str.{encode_utf8_all};
 ghost use Rattle.eb_lexer.specs.Tokens as spec;
 ghost use Rattle.eb_lexer.specs.steps.Lexing as lexing;
 
-use super::signs::sign_at;
-use super::token::{Sign, TokenKind};
-use super::words::reserved;
+use super::symbols::sign_at;
+use super::token::TokenKind;
 use eb_names::Name;
+use eb_signs::reserved;
 use std::alloc::{AllocError, Global};
 use unicode_ident::{is_xid_continue, is_xid_start};
 

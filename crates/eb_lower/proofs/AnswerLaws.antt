@@ -10,19 +10,21 @@ use Rattle.std.specs.Result.{IfOk, IfErr}
 use Rattle.eb_scoping.specs.Models.{AreMarked}
 use Rattle.eb_lower.specs.Names.{AreNamed, IsFaultOf}
 use Rattle.eb_lower.specs.Unsupported.{unsupported}
-use Rattle.eb_lower.specs.Declarations.{Declaration, declarations, AreDistinct}
+use Rattle.eb_declared.specs.declared.fault.RepeatFault.{RepeatFault}
+use Rattle.eb_declared.specs.declared.fault.RepeatFault.TheVariants as repeated
+use Rattle.eb_declared.specs.Parts.{Part, parts}
+use Rattle.eb_declared.specs.Declarations.{declarations, AreDistinct}
+use Rattle.eb_declared.specs.Declarations as declared
 use Rattle.eb_lower.specs.Usages.{Usage, usages, IsKnown}
-use Rattle.eb_lower.specs.steps.Keys.{AreJudged}
+use Rattle.eb_lower.specs.steps.Faults.{naming_fault}
 use Rattle.eb_lower.specs.steps.Known.{JudgesUsage}
 use Rattle.eb_lower.specs.steps.Answers.{Answers, KnowsAll}
 
-pub declared_answer : (us : List EbUnit) (marks : List Bool) (ds : List Declaration) (e : NameFault) → unsupported us ≡ [] → ds ≡ declarations us marks → AreJudged ds (Err e) → Answers us marks (Err e)
-declared_answer us marks ds (fault.Unsupported place) n d j = absurd j
-declared_answer us marks ds (fault.DuplicateName name) n d j = (n, subst (λ z. AreJudged z (Err (fault.DuplicateName name))) d j)
-declared_answer us marks ds (fault.UnknownName name) n d j = absurd j
-declared_answer us marks ds fault.Memory n d j = tt
+pub declared_answer : (us : List EbUnit) (marks : List Bool) (ps : List Part) (e : RepeatFault) → unsupported us ≡ [] → ps ≡ parts us marks → declared.IsFaultOf ps e → Answers us marks (Err (naming_fault e))
+declared_answer us marks ps (repeated.Repeated name) n d j = (n, subst (λ z. declared.IsFaultOf z (repeated.Repeated name)) d j)
+declared_answer us marks ps repeated.Memory n d j = tt
 
-pub known_answer : (us : List EbUnit) (marks : List Bool) (r : Result (Unit {0}) NameFault) → unsupported us ≡ [] → AreDistinct (declarations us marks) → KnowsAll us marks (usages us marks) r → Answers us marks r
+pub known_answer : (us : List EbUnit) (marks : List Bool) (r : Result (Unit {0}) NameFault) → unsupported us ≡ [] → AreDistinct (declarations (parts us marks)) → KnowsAll us marks (usages (parts us marks)) r → Answers us marks r
 known_answer us marks (Ok u) n d k = (n, d, k)
 known_answer us marks (Err (fault.Unsupported place)) n d k = absurd k
 known_answer us marks (Err (fault.DuplicateName name)) n d k = absurd k
@@ -39,11 +41,11 @@ pub all_more : (us : List EbUnit) (marks : List Bool) (xs ys : List Usage) → A
 all_more us marks [] ys a b = b
 all_more us marks (x ∷ xs) ys a b = (a.0, all_more us marks xs ys a.1 b)
 
--- the first unknown usage of a unit is the first one of all, where all usages before are known
-pub unit_unknown : (us : List EbUnit) (marks : List Bool) (all before found rest : List Usage) (e : NameFault) → AllByRecursion (IsKnown us marks) before → all ≡ before ++ (found ++ rest) → KnowsAll us marks found (Err e) → KnowsAll us marks all (Err e)
-unit_unknown us marks all before found rest (fault.Unsupported place) k s j = j
-unit_unknown us marks all before found rest (fault.DuplicateName name) k s j = j
-unit_unknown us marks all before found rest (fault.UnknownName name) k s j = record {
+-- the first unknown usage of a part is the first one of all, where all usages before are known
+pub part_unknown : (us : List EbUnit) (marks : List Bool) (all before found rest : List Usage) (e : NameFault) → AllByRecursion (IsKnown us marks) before → all ≡ before ++ (found ++ rest) → KnowsAll us marks found (Err e) → KnowsAll us marks all (Err e)
+part_unknown us marks all before found rest (fault.Unsupported place) k s j = j
+part_unknown us marks all before found rest (fault.DuplicateName name) k s j = j
+part_unknown us marks all before found rest (fault.UnknownName name) k s j = record {
   before = before ++ j.before;
   unknown = j.unknown;
   rest = j.rest ++ rest;
@@ -52,7 +54,7 @@ unit_unknown us marks all before found rest (fault.UnknownName name) k s j = rec
   fails = j.fails;
   named = j.named;
 }
-unit_unknown us marks all before found rest fault.Memory k s j = tt
+part_unknown us marks all before found rest fault.Memory k s j = tt
 
 pub answered : (us : List EbUnit) (marks : List Bool) (r : Result (Unit {0}) NameFault) → AreMarked us us marks → Answers us marks r → IfOk r (λ _. AreNamed us) × IfErr r (IsFaultOf us)
 answered us marks (Ok u) m a = ((marks, m, a.0, a.1, a.2), tt)

@@ -4,7 +4,7 @@ use Rattle.eb_syntax.specs.declared.units.Event.{Event}
 use Rattle.eb_syntax.specs.declared.units.EbUnit.{EbUnit}
 use Rattle.eb_scoping.specs.FreeNames.{is_among}
 use Rattle.eb_lower.specs.Unsupported.{is_initialisation}
-use Rattle.eb_lower.specs.Declarations.{parameter_names}
+use Rattle.eb_declared.specs.Parts.{parameter_names}
 use Rattle.eb_lower.specs.Usages.{IsStatic, IsVariable, IsKnownInEvent}
 use Rattle.eb_lower.specs.steps.Known.{Tells}
 use Rattle.eb_lower.proofs.KnownLaws.{among_contains, contains_among}

@@ -1,5 +1,5 @@
 -- Laws of what is told of used names.
-use Rattle.std.proofs.Common.{◌≡◌, ◌∙◌, ◌∷◌, [], ◌||◌, ℕ, Bool, true, false, List, Option, None, Some, Contains, refl, sym, subst, ⊎_elim, bytes_eq, arith}
+use Rattle.std.proofs.Common.{◌≡◌, ◌∙◌, ◌⊎◌, inl, inr, ◌∷◌, [], ◌||◌, ℕ, Bool, true, false, List, Option, None, Some, Contains, refl, sym, subst, ⊎_elim, bytes_eq, arith}
 use Rattle.std.proofs.lemmas.Slice.Eq.{bytes_eq-Decides}
 use Rattle.std.proofs.lemmas.List.Elements.{Contains-append_right}
 use Rattle.eb_syntax.specs.declared.units.EbUnit.{EbUnit}
@@ -10,7 +10,17 @@ use Rattle.eb_lower.specs.Usages.{IsVariable}
 use Rattle.eb_lower.specs.steps.Facts.{all_variables, machine_variables}
 use Rattle.eb_lower.specs.steps.Known.{Tells}
 use Rattle.eb_lower.proofs.ListLaws.{contains_cases}
-use Rattle.eb_lower.proofs.KeyLaws.{or_cases, or_left, or_right}
+
+or_left : (a b : Bool) → a ≡ true → (a || b) ≡ true
+or_left a b e = rw e refl
+
+or_right : (a b : Bool) → b ≡ true → (a || b) ≡ true
+or_right true b e = refl
+or_right false b e = e
+
+or_cases : (a b : Bool) → (a || b) ≡ true → (a ≡ true) ⊎ (b ≡ true)
+or_cases true b e = inl refl
+or_cases false b e = inr e
 
 pub among_contains : (xs : List (List ℕ)) (q : List ℕ) → is_among xs q ≡ true → Contains xs q
 among_contains [] q h = absurd cc

@@ -1,8 +1,5 @@
 mod ListLaws
 mod PlaceLaws
-mod FormulaLaws
-mod KeyLaws
-mod RepeatLaws
 mod UnitLaws
 mod StaticPlaces
 mod FactLaws
@@ -13,3 +10,4 @@ mod EventLaws
 mod ReachLaws
 mod PlacedLaws
 mod ContextLaws
+mod PartLaws

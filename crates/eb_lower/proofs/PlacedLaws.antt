@@ -1,7 +1,7 @@
 -- Laws of the axioms whose names are judged: they are of contexts of the model.
 use Rattle.std.proofs.Common.{◌≡◌, ◌<◌, ◌++◌, ◌∷◌, [], ℕ, zero, suc, Bool, true, false, List, Option, None, Some, length, get_or, map, refl, sym, subst, arith}
 use Rattle.std.specs.List.{flat_map, AllByRecursion}
-use Rattle.eb_syntax.specs.declared.ast.Ast.{Ast}
+use Rattle.eb_syntax.specs.declared.ast.Identifier.{Identifier}
 use Rattle.eb_syntax.specs.declared.units.Context.{Context}
 use Rattle.eb_syntax.specs.declared.units.ContextClause.{ContextClause}
 use Rattle.eb_syntax.specs.declared.units.ContextClause.TheVariants as part
@@ -12,14 +12,16 @@ use Rattle.eb_syntax.specs.declared.units.PredicatesClause.{PredicatesClause}
 use Rattle.eb_syntax.specs.declared.units.Assignment.{Assignment}
 use Rattle.eb_syntax.specs.declared.units.Assignment.TheVariants as assign
 use Rattle.eb_syntax.specs.declared.units.Event.{Event}
+use Rattle.eb_syntax.specs.declared.units.ScopeBlock.{ScopeBlock}
 use Rattle.eb_syntax.specs.declared.units.ScopeSetting.{ScopeSetting}
 use Rattle.eb_syntax.specs.declared.units.ScopeSetting.TheVariants as setting
 use Rattle.eb_syntax.specs.declared.units.EbUnit.{EbUnit}
 use Rattle.eb_syntax.specs.declared.units.EbUnit.TheVariants as eb
-use Rattle.eb_scoping.specs.FreeNames.{names_of, free}
+use Rattle.eb_scoping.specs.FreeNames.{names_of, used, free}
 use Rattle.eb_scoping.specs.Models.{AreMarked, AreMarkedBehind, IsModelUnit}
-use Rattle.eb_lower.specs.Usages.{Usage, Position, at_context, in_axiom, in_invariant, in_event, at_assigned, usage, at, formula_usages, context_clause_usages, guard_usages, assignment_usages, event_usages, machine_clause_usages, setting_usages, context_usages, machine_usages, unit_usages}
-use Rattle.eb_lower.specs.steps.Known.{IsOfModel, IsPlaced, ArePlaced}
+use Rattle.eb_declared.specs.Parts.{Space, space_model, space_parameters, space_axioms, space_invariants, Position, at_context, in_axiom, in_invariant, in_event, at_assigned, Part, declares, uses, formula, all_declared, all_used, labelled_parts, context_clause_parts, parameter_names, guard_parts, assigned_parts, all_assigned, assignment_parts, event_parts, machine_clause_parts, setting_parts, context_parts, machine_parts, scope_parts, unit_parts, parts}
+use Rattle.eb_lower.specs.Usages.{Usage, usage, part_usages}
+use Rattle.eb_lower.specs.steps.Known.{IsOfModel, IsPlaced, IsPlacedPart, ArePlaced}
 
 all_at : {A B : Type 0} (P : B → Type 0) (f : A → B) (xs : List A) (i : ℕ) (x : A) → AllByRecursion P (map f xs) → i < length xs → x ≡ get_or xs i x → P (f x)
 all_at P f [] i x a l e = absurd (omega (arith, l))
@@ -42,65 +44,86 @@ module _ (us : List EbUnit) where
   abbrev Placed : Usage → Type 0
   Placed u = IsPlaced us u.position
 
+  abbrev Stands : Part → Type 0
+  Stands p = IsPlacedPart us p
+
+  abbrev Stand : List Part → Type 0
+  Stand ps = AllByRecursion (IsPlacedPart us) ps
+
   pub placed_at : {A : Type 0} (f : A → Usage) (xs : List A) (i : ℕ) (x : A) → ArePlaced us (map f xs) → i < length xs → x ≡ get_or xs i x → IsPlaced us (f x).position
   placed_at f xs i x a l e = all_at Placed f xs i x a l e
 
-  formula : (p : Position) → IsPlaced us p → (a : Ast) → ArePlaced us (formula_usages p a)
-  formula p h a = all_mapped Placed (usage p) (free a) (λ x. h)
+  all_names : (s : Space) (names : List (List ℕ)) → Stand (all_declared s names)
+  all_names s names = all_mapped Stands (declares s) names (λ x. tt)
 
-  context_clause : (c : Context) → IsOfModel us c.name.name → (k : ContextClause) → ArePlaced us (context_clause_usages c k)
-  context_clause c h (part.Sets xs) = tt
-  context_clause c h (part.Constants xs) = tt
-  context_clause c h (part.Axioms ps) = all_flat Placed (λ p. formula_usages (in_axiom c) p.predicate) ps (λ p. formula (in_axiom c) h p.predicate)
+  seen_names : (names : List (List ℕ)) → Stand (all_used at_context names)
+  seen_names names = all_mapped Stands (uses at_context) names (λ x. tt)
 
-  guards : (e : Event) (o : Option PredicatesClause) → ArePlaced us (guard_usages e o)
+  context_clause : (c : Context) → IsOfModel us c.name.name → (k : ContextClause) → Stand (context_clause_parts c k)
+  context_clause c h (part.Sets xs) = all_names space_model (names_of xs)
+  context_clause c h (part.Constants xs) = all_names space_model (names_of xs)
+  context_clause c h (part.Axioms ps) = all_flat Stands (labelled_parts (space_axioms c.name.name) (in_axiom c)) ps (λ p. (tt, (h, tt)))
+
+  guards : (e : Event) (o : Option PredicatesClause) → Stand (guard_parts e o)
   guards e None = tt
-  guards e (Some c) = all_flat Placed (λ p. formula_usages (in_event e []) p.predicate) c.predicates (λ p. formula (in_event e []) tt p.predicate)
+  guards e (Some c) = all_mapped Stands (λ p. formula (in_event e []) p.predicate) c.predicates (λ p. tt)
 
-  assignment : (e : Event) (a : Assignment) → ArePlaced us (assignment_usages e a)
-  assignment e (assign.BecomesEqual xs vs) = all_both Placed (map (at at_assigned) xs) (flat_map (formula_usages (in_event e [])) vs)
-      (all_mapped Placed (at at_assigned) xs (λ x. tt)) (all_flat Placed (formula_usages (in_event e [])) vs (formula (in_event e []) tt))
-  assignment e (assign.BecomesEqualAt f a v) = (tt, all_both Placed (formula_usages (in_event e []) a) (formula_usages (in_event e []) v) (formula (in_event e []) tt a) (formula (in_event e []) tt v))
-  assignment e (assign.BecomesMember x s) = (tt, formula (in_event e []) tt s)
-  assignment e (assign.BecomesSuchThat xs p) = all_both Placed (map (at at_assigned) xs) (formula_usages (in_event e (names_of xs)) p)
-      (all_mapped Placed (at at_assigned) xs (λ x. tt)) (formula (in_event e (names_of xs)) tt p)
+  assigned : (e : Event) (xs : List Identifier) → Stand (all_assigned e xs)
+  assigned e xs = all_flat Stands (assigned_parts e at_assigned) xs (λ x. (tt, (tt, tt)))
 
-  event : (e : Event) → ArePlaced us (event_usages e)
-  event e = all_both Placed (guard_usages e e.guards) (flat_map (λ a. assignment_usages e a.assignment) e.actions) (guards e e.guards) (all_flat Placed (λ a. assignment_usages e a.assignment) e.actions (λ a. assignment e a.assignment))
+  assignment : (e : Event) (a : Assignment) → Stand (assignment_parts e a)
+  assignment e (assign.BecomesEqual xs vs) = all_both Stands (all_assigned e xs) (map (formula (in_event e [])) vs) (assigned e xs) (all_mapped Stands (formula (in_event e [])) vs (λ v. tt))
+  assignment e (assign.BecomesEqualAt f a v) = (tt, (tt, (tt, (tt, tt))))
+  assignment e (assign.BecomesMember x s) = (tt, (tt, (tt, tt)))
+  assignment e (assign.BecomesSuchThat xs p) = all_both Stands (all_assigned e xs) (formula (in_event e (names_of xs)) p ∷ []) (assigned e xs) (tt, tt)
 
-  machine_clause : (k : MachineClause) → ArePlaced us (machine_clause_usages k)
-  machine_clause (clause.Variables xs) = tt
-  machine_clause (clause.Invariants ps) = all_flat Placed (λ p. formula_usages in_invariant p.predicate) ps (λ p. formula in_invariant tt p.predicate)
+  event : (e : Event) → Stand (event_parts e)
+  event e =
+      let acts = flat_map (λ a. assignment_parts e a.assignment) e.actions in
+      let ps = all_declared (space_parameters e.name.name) (parameter_names e.parameters) in (
+        tt,
+        all_both Stands ps (guard_parts e e.guards ++ acts) (all_names (space_parameters e.name.name) (parameter_names e.parameters))
+            (all_both Stands (guard_parts e e.guards) acts (guards e e.guards) (all_flat Stands (λ a. assignment_parts e a.assignment) e.actions (λ a. assignment e a.assignment))),
+      )
+
+  machine_clause : (k : MachineClause) → Stand (machine_clause_parts k)
+  machine_clause (clause.Variables xs) = all_names space_model (names_of xs)
+  machine_clause (clause.Invariants ps) = all_flat Stands (labelled_parts space_invariants in_invariant) ps (λ p. (tt, (tt, tt)))
   machine_clause (clause.Variant l e) = tt
-  machine_clause (clause.Events es) = all_flat Placed event_usages es event
+  machine_clause (clause.Events es) = all_flat Stands event_parts es event
 
-  set : (s : ScopeSetting) → ArePlaced us (setting_usages s)
-  set (setting.Integers place lo hi) = tt
-  set (setting.Size s n) = (tt, tt)
-  set (setting.Depth place n) = tt
+  set : (s : ScopeSetting) → Stand (setting_parts s)
+  set (setting.Integers place lo hi) = (tt, tt)
+  set (setting.Size s n) = (tt, (tt, tt))
+  set (setting.Depth place n) = (tt, tt)
 
-  context : (b : Bool) (c : Context) → (b ≡ true → IsOfModel us c.name.name) → ArePlaced us (context_usages b c)
-  context true c h = all_both Placed (map (at at_context) c.extends) (flat_map (context_clause_usages c) c.clauses)
-      (all_mapped Placed (at at_context) c.extends (λ x. tt)) (all_flat Placed (context_clause_usages c) c.clauses (context_clause c (h refl)))
-  context false c h = tt
+  context : (b : Bool) (c : Context) → (b ≡ true → IsOfModel us c.name.name) → Stand (context_parts b c)
+  context true c h = (tt, all_both Stands (all_used at_context (names_of c.extends)) (flat_map (context_clause_parts c) c.clauses) (seen_names (names_of c.extends)) (all_flat Stands (context_clause_parts c) c.clauses (context_clause c (h refl))))
+  context false c h = (tt, tt)
 
-  machine : (b : Bool) (m : Machine) → ArePlaced us (machine_usages b m)
-  machine true m = all_both Placed (map (at at_context) m.sees) (flat_map machine_clause_usages m.clauses)
-      (all_mapped Placed (at at_context) m.sees (λ x. tt)) (all_flat Placed machine_clause_usages m.clauses machine_clause)
-  machine false m = tt
+  machine : (b : Bool) (m : Machine) → Stand (machine_parts b m)
+  machine true m = (tt, (tt, all_both Stands (all_used at_context (names_of m.sees)) (flat_map machine_clause_parts m.clauses) (seen_names (names_of m.sees)) (all_flat Stands machine_clause_parts m.clauses machine_clause)))
+  machine false m = (tt, (tt, tt))
 
-  unit : (before : List EbUnit) (b : Bool) (u : EbUnit) → (b ≡ true → IsModelUnit us before u) → ArePlaced us (unit_usages b u)
+  scope : (s : ScopeBlock) → Stand (scope_parts s)
+  scope s = (tt, all_flat Stands setting_parts s.settings set)
+
+  unit : (before : List EbUnit) (b : Bool) (u : EbUnit) → (b ≡ true → IsModelUnit us before u) → Stand (unit_parts b u)
   unit before b (eb.Context c) h = context b c h
   unit before b (eb.Machine m) h = machine b m
-  unit before b (eb.Scope s) h = all_flat Placed setting_usages s.settings set
+  unit before b (eb.Scope s) h = scope s
   unit before b (eb.Queries qs) h = tt
 
-  placed_behind : (before vs : List EbUnit) (bs : List Bool) (i : ℕ) (u : EbUnit) → AreMarkedBehind us before vs bs → i < length vs → u ≡ get_or vs i u → ArePlaced us (unit_usages (get_or bs i false) u)
-  placed_behind before [] bs i u m l e = absurd (omega (arith, l))
-  placed_behind before (v ∷ vs) [] i u m l e = absurd m
-  placed_behind before (v ∷ vs) (b ∷ bs) zero u m l e = unit before b u (λ t. subst (IsModelUnit us before) (sym e) (m.0 t))
-  placed_behind before (v ∷ vs) (b ∷ bs) (suc i) u m l e = placed_behind (before ++ v ∷ []) vs bs i u m.2 (omega (arith, l)) e
+  stand_behind : (before vs : List EbUnit) (bs : List Bool) → AreMarkedBehind us before vs bs → Stand (parts vs bs)
+  stand_behind before [] bs m = tt
+  stand_behind before (v ∷ vs) [] m = absurd m
+  stand_behind before (v ∷ vs) (b ∷ bs) m = all_both Stands (unit_parts b v) (parts vs bs) (unit before b v m.0) (stand_behind (before ++ v ∷ []) vs bs m.2)
 
--- the usages of a unit of the text stand at such positions
-pub placed_unit : (us : List EbUnit) (bs : List Bool) (i : ℕ) (u : EbUnit) → AreMarked us us bs → i < length us → u ≡ get_or us i u → ArePlaced us (unit_usages (get_or bs i false) u)
-placed_unit us bs i u m l e = placed_behind us [] us bs i u m l e
+  placed_in : (p : Part) → Stands p → ArePlaced us (part_usages p)
+  placed_in (declares s x) h = tt
+  placed_in (uses p x) h = (h, tt)
+  placed_in (formula p a) h = all_mapped Placed (usage p) (free a) (λ x. h)
+
+-- the usages in a part of the text stand at such positions
+pub placed_part : {A : Type 0} (us : List EbUnit) (bs : List Bool) (f : A → Part) (ps : List A) (i : ℕ) (x : A) → AreMarked us us bs → map f ps ≡ parts us bs → i < length ps → x ≡ get_or ps i x → ArePlaced us (part_usages (f x))
+placed_part us bs f ps i x m are l e = placed_in us (f x) (all_at (IsPlacedPart us) f ps i x (subst (AllByRecursion (IsPlacedPart us)) (sym are) (stand_behind us [] us bs m)) l e)

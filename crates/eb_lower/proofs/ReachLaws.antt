@@ -18,7 +18,8 @@ use Rattle.std.specs.declared.result.Result.{Result}
 use Rattle.std.specs.declared.result.Result.TheVariants.{Ok, Err}
 use Rattle.eb_scoping.specs.declared.contexts.Walk.{Walk}
 use Rattle.eb_scoping.specs.Walks.{IsWalk}
-use Rattle.eb_lower.specs.Usages.{in_axiom, IsKnownAt}
+use Rattle.eb_declared.specs.Parts.{in_axiom}
+use Rattle.eb_lower.specs.Usages.{IsKnownAt}
 use Rattle.eb_lower.specs.steps.Facts.{AreStatics}
 use Rattle.eb_lower.specs.steps.Known.{Tells, IsOfModel, ExtendsAt, ExtendsOne}
 use Rattle.eb_lower.proofs.ListLaws.{contains_none, contains_cases}

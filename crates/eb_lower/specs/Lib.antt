@@ -1,5 +1,4 @@
 pub mod Unsupported
-pub mod Declarations
 pub mod Usages
 pub mod Names
 pub mod steps

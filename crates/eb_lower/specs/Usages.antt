@@ -1,11 +1,6 @@
--- Where a text uses names of declarations, in the order of the text, and which of these names are known there.
-use Rattle.std.specs.Prelude.{ℕ, ◌≡◌, ◌⊎◌, Bool, true, false, List, [], ◌∷◌, ◌++◌, Option, None, Some, Contains, map, if◌then◌else◌, codes}
+-- Where the parts of a text use names of declarations, in the order of the text, and which of these names are known there.
+use Rattle.std.specs.Prelude.{ℕ, ◌≡◌, ◌⊎◌, Bool, true, false, List, [], ◌∷◌, ◌++◌, Some, Contains, map, if◌then◌else◌, codes}
 use Rattle.std.specs.List.{flat_map}
-use Rattle.eb_syntax.specs.declared.ast.Ast.{Ast}
-use Rattle.eb_syntax.specs.declared.ast.Identifier.{Identifier}
-use Rattle.eb_syntax.specs.declared.units.PredicatesClause.{PredicatesClause}
-use Rattle.eb_syntax.specs.declared.units.Assignment.{Assignment}
-use Rattle.eb_syntax.specs.declared.units.Assignment.TheVariants as assign
 use Rattle.eb_syntax.specs.declared.units.Event.{Event}
 use Rattle.eb_syntax.specs.declared.units.Context.{Context}
 use Rattle.eb_syntax.specs.declared.units.Machine.{Machine}
@@ -13,29 +8,12 @@ use Rattle.eb_syntax.specs.declared.units.ContextClause.{ContextClause}
 use Rattle.eb_syntax.specs.declared.units.ContextClause.TheVariants as part
 use Rattle.eb_syntax.specs.declared.units.MachineClause.{MachineClause}
 use Rattle.eb_syntax.specs.declared.units.MachineClause.TheVariants as clause
-use Rattle.eb_syntax.specs.declared.units.ScopeSetting.{ScopeSetting}
-use Rattle.eb_syntax.specs.declared.units.ScopeSetting.TheVariants as setting
 use Rattle.eb_syntax.specs.declared.units.EbUnit.{EbUnit}
 use Rattle.eb_syntax.specs.declared.units.EbUnit.TheVariants as eb
 use Rattle.eb_scoping.specs.FreeNames.{Use, used, free, names_of}
 use Rattle.eb_scoping.specs.Models.{machine_of, marked, Extends}
+use Rattle.eb_declared.specs.Parts.{Position, at_context, at_size, in_axiom, in_invariant, in_event, at_assigned, at_changed, Part, declares, uses, formula, parameter_names}
 use Rattle.eb_lower.specs.Unsupported.{is_initialisation}
-use Rattle.eb_lower.specs.Declarations.{parameter_names}
-
--- Where a name is looked up.
-pub data Position : Type 0 where
-  -- behind `extends` or `sees`
-  at_context : Position
-  -- behind `size`
-  at_size : Position
-  in_axiom : Context → Position
-  in_invariant : Position
-  -- in a guard or action of the event, where these names have values after it
-  in_event : Event → (after : List (List ℕ)) → Position
-  -- left of `:=`, `::` or `:|`
-  at_assigned : Position
-  -- the f of `f(E) := F` in this event
-  at_changed : Event → Position
 
 pub record Usage : Type 0 where
   pub use_of : Use
@@ -43,9 +21,6 @@ pub record Usage : Type 0 where
 
 abbrev pub usage : Position → Use → Usage
 usage p u = record { use_of = u; position = p }
-
-abbrev pub at : Position → Identifier → Usage
-at p x = usage p (used x.name false)
 
 -- a used name as it is printed
 abbrev pub use_text : Use → List ℕ
@@ -105,53 +80,11 @@ IsKnownAt us marks (at_changed e) u = (is_initialisation e ≡ false) × IsVaria
 abbrev pub IsKnown : List EbUnit → List Bool → Usage → Type 0
 IsKnown us marks u = IsKnownAt us marks u.position u.use_of
 
-abbrev pub formula_usages : Position → Ast → List Usage
-formula_usages p a = map (usage p) (free a)
+abbrev pub part_usages : Part → List Usage
+part_usages (declares s x) = []
+part_usages (uses p x) = usage p (used x false) ∷ []
+part_usages (formula p a) = map (usage p) (free a)
 
-abbrev pub context_clause_usages : Context → ContextClause → List Usage
-context_clause_usages c (part.Sets xs) = []
-context_clause_usages c (part.Constants xs) = []
-context_clause_usages c (part.Axioms ps) = flat_map (λ p. formula_usages (in_axiom c) p.predicate) ps
-
-abbrev pub guard_usages : Event → Option PredicatesClause → List Usage
-guard_usages e None = []
-guard_usages e (Some c) = flat_map (λ p. formula_usages (in_event e []) p.predicate) c.predicates
-
-abbrev pub assignment_usages : Event → Assignment → List Usage
-assignment_usages e (assign.BecomesEqual xs vs) = map (at at_assigned) xs ++ flat_map (formula_usages (in_event e [])) vs
-assignment_usages e (assign.BecomesEqualAt f a v) = at (at_changed e) f ∷ (formula_usages (in_event e []) a ++ formula_usages (in_event e []) v)
-assignment_usages e (assign.BecomesMember x s) = at at_assigned x ∷ formula_usages (in_event e []) s
-assignment_usages e (assign.BecomesSuchThat xs p) = map (at at_assigned) xs ++ formula_usages (in_event e (names_of xs)) p
-
-abbrev pub event_usages : Event → List Usage
-event_usages e = guard_usages e e.guards ++ flat_map (λ a. assignment_usages e a.assignment) e.actions
-
-abbrev pub machine_clause_usages : MachineClause → List Usage
-machine_clause_usages (clause.Variables xs) = []
-machine_clause_usages (clause.Invariants ps) = flat_map (λ p. formula_usages in_invariant p.predicate) ps
-machine_clause_usages (clause.Variant l e) = []
-machine_clause_usages (clause.Events es) = flat_map event_usages es
-
-abbrev pub setting_usages : ScopeSetting → List Usage
-setting_usages (setting.Integers place lo hi) = []
-setting_usages (setting.Size s n) = at at_size s ∷ []
-setting_usages (setting.Depth place n) = []
-
--- of contexts and machines outside the model none
-abbrev pub context_usages : Bool → Context → List Usage
-context_usages is_marked c = if is_marked then map (at at_context) c.extends ++ flat_map (context_clause_usages c) c.clauses else []
-
-abbrev pub machine_usages : Bool → Machine → List Usage
-machine_usages is_marked m = if is_marked then map (at at_context) m.sees ++ flat_map machine_clause_usages m.clauses else []
-
-abbrev pub unit_usages : Bool → EbUnit → List Usage
-unit_usages is_marked (eb.Context c) = context_usages is_marked c
-unit_usages is_marked (eb.Machine m) = machine_usages is_marked m
-unit_usages is_marked (eb.Scope s) = flat_map setting_usages s.settings
-unit_usages is_marked (eb.Queries qs) = []
-
--- the usages of these units with their marks
-abbrev pub usages : List EbUnit → List Bool → List Usage
-usages [] bs = []
-usages (u ∷ us) [] = []
-usages (u ∷ us) (b ∷ bs) = unit_usages b u ++ usages us bs
+-- the usages in these parts
+abbrev pub usages : List Part → List Usage
+usages parts = flat_map part_usages parts

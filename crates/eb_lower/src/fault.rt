@@ -1,6 +1,8 @@
 ghost use Rattle.std.specs.Prelude.{◌≡◌};
 ghost use Rattle.eb_lower.specs.declared.fault.NameFault.TheVariants as fault;
+ghost use Rattle.eb_lower.specs.steps.Faults as spec;
 
+use eb_declared::RepeatFault;
 use eb_names::Name;
 use std::alloc::AllocError;
 use thiserror::Error;
@@ -27,5 +29,16 @@ impl From<AllocError> for NameFault {
 
     fn from(_error: AllocError) -> NameFault {
         NameFault::Memory
+    }
+}
+
+impl From<RepeatFault> for NameFault {
+    ghost from_gives = { λ repeated e. e ≡ spec.naming_fault repeated };
+
+    fn from(fault: RepeatFault) -> NameFault {
+        match fault {
+            RepeatFault::Repeated(name) => NameFault::DuplicateName(name),
+            RepeatFault::Memory => NameFault::Memory,
+        }
     }
 }

@@ -5,11 +5,10 @@ ghost use Rattle.eb_scoping.specs.Models.{AreMarked};
 ghost use Rattle.eb_lower.specs.Unsupported.{unsupported};
 ghost use Rattle.eb_lower.specs.steps.Answers as spec;
 
-use super::declarations::declarations;
-use super::fault::NameFault;
-use super::known::judge_usages;
-use super::repeats::judge_all;
-use super::unsupported::unsupported_place;
+use crate::fault::NameFault;
+use crate::known::judge_usages;
+use crate::unsupported::unsupported_place;
+use eb_declared::{judge_declarations, parts};
 use eb_scoping::model_units;
 use eb_syntax::EbUnit;
 use std::alloc::Global;
@@ -35,9 +34,9 @@ fn judge(alloc: Global, units: &[EbUnit], marks: &[bool]) -> Result<(), NameFaul
     requires supported { unsupported units.now ≡ [] }
     ensures { spec.Answers units.now marks.now result }
 {
-    let declared = declarations(alloc, units, marks)?;
-    if let Err(fault) = judge_all(alloc, &declared) {
-        return Err(fault);
+    let found = parts(alloc, units, marks)?;
+    if let Err(fault) = judge_declarations(alloc, &found) {
+        return Err(NameFault::from(fault));
     }
-    judge_usages(alloc, units, marks)
+    judge_usages(alloc, units, marks, &found)
 }

@@ -4,17 +4,19 @@ ghost use Rattle.eb_scoping.specs.Models.{AreMarked};
 ghost use Rattle.eb_scoping.specs.Groups.{IsIndex};
 ghost use Rattle.eb_scoping.specs.Walks.{IsWalk};
 ghost use Rattle.eb_scoping.specs.FreeNames as uses;
-ghost use Rattle.eb_lower.specs.Declarations as declared;
+ghost use Rattle.eb_declared.specs.Parts as parts;
+ghost use Rattle.eb_declared.specs.Seen as held;
 ghost use Rattle.eb_lower.specs.Unsupported.{is_initialisation as initial};
 ghost use Rattle.eb_lower.specs.Usages as spec;
 ghost use Rattle.eb_lower.specs.steps.Answers.{KnowsAll};
 ghost use Rattle.eb_lower.specs.steps.Positions as seen;
 ghost use Rattle.eb_lower.specs.steps.Known.{Tells, Text, ReachIs, JudgesUsage, IsOfModel, IsPlaced, ArePlaced, ExtendsAt, ExtendsOne};
 
-use super::facts::{Facts, facts_of, hinted_place};
-use super::fault::NameFault;
-use super::unsupported::is_initialisation;
-use super::usages::{Position, Usage, push_unit};
+use crate::facts::{Facts, facts_of, hinted_place};
+use crate::fault::NameFault;
+use crate::unsupported::is_initialisation;
+use crate::usages::{Usage, push_part};
+use eb_declared::{Part, Position};
 use eb_names::Name;
 use eb_scoping::{Use, Walk, has_name, is_among, lead_walk, walk_from, walk_reaches};
 use eb_syntax::{Context, EbUnit, Event, Identifier};
@@ -57,7 +59,7 @@ fn is_listed(facts: &Facts<'_>, event: &Event, names: &[Identifier], name: &str)
 }
 
 fn is_parameter(facts: &Facts<'_>, event: &Event, name: &str) -> bool
-    ensures { result ≡ uses.is_among (declared.parameter_names event.now.parameters) name.now }
+    ensures { result ≡ uses.is_among (parts.parameter_names event.now.parameters) name.now }
 {
     match &event.parameters {
         Some(clause) => is_listed(facts, event, clause.names.as_slice(), name),
@@ -74,7 +76,7 @@ fn has_value_before(facts: &Facts<'_>, event: &Event, name: &str) -> bool
 
 /// Whether the name is known in a guard or action of the event.
 fn is_known_in_event(facts: &Facts<'_>, event: &Event, after: &[Identifier], used: Use<'_>) -> bool
-    ensures { (us : List seen.Unit) (marks : List Bool) → Text us marks facts.now → Tells result (spec.IsKnownAt us marks (spec.in_event event.now (uses.names_of after.now)) (uses.seen used.entry)) }
+    ensures { (us : List seen.Unit) (marks : List Bool) → Text us marks facts.now → Tells result (spec.IsKnownAt us marks (parts.in_event event.now (uses.names_of after.now)) (uses.seen used.entry)) }
 {
     let name = used.name.as_str();
     if used.is_primed {
@@ -177,7 +179,7 @@ fn is_known_in_axiom<'a>(
     requires places { IsIndex units.now facts.now.places }
     requires placed { IsOfModel units.now context.now.name.name }
     ensures reached { OnOk result (ReachIs units.now reach.new) }
-    ensures known { (marks : List Bool) → Text units.now marks facts.now → IfOk result (λ known. Tells known (spec.IsKnownAt units.now marks (spec.in_axiom context.now) (uses.seen used.entry))) }
+    ensures known { (marks : List Bool) → Text units.now marks facts.now → IfOk result (λ known. Tells known (spec.IsKnownAt units.now marks (parts.in_axiom context.now) (uses.seen used.entry))) }
 {
     if used.is_primed {
         return Ok(false);
@@ -258,8 +260,8 @@ fn judge_usage<'a>(
     Err(NameFault::UnknownName(name))
 }
 
-/// Judges the usages of one unit.
-fn judge_unit<'a>(
+/// Judges the usages in one part.
+fn judge_part<'a>(
     alloc: Global,
     units: &'a [EbUnit],
     facts: &Facts<'_>,
@@ -280,17 +282,23 @@ fn judge_unit<'a>(
     Ok(())
 }
 
-/// Judges the usages of all units, one unit after the other.
-pub(crate) fn judge_usages(alloc: Global, units: &[EbUnit], marks: &[bool]) -> Result<(), NameFault>
-    requires { AreMarked units.now units.now marks.now }
-    ensures { KnowsAll units.now marks.now (spec.usages units.now marks.now) result }
+/// Judges the usages in the parts of units with these marks, one part after the other.
+pub(crate) fn judge_usages(
+    alloc: Global,
+    units: &[EbUnit],
+    marks: &[bool],
+    found: &[Part<'_>],
+) -> Result<(), NameFault>
+    requires marked { AreMarked units.now units.now marks.now }
+    requires parts { map held.part found.now ≡ parts.parts units.now marks.now }
+    ensures { KnowsAll units.now marks.now (spec.usages (parts.parts units.now marks.now)) result }
 {
     let facts = facts_of(alloc, units, marks)?;
     let mut reach = None;
-    for i in 0..units.len() {
+    for part in found {
         let mut usages = Vec::new(alloc);
-        push_unit(alloc, &units[i], marks[i], &mut usages)?;
-        if let Err(fault) = judge_unit(alloc, units, &facts, &usages, &mut reach) {
+        push_part(alloc, *part, &mut usages)?;
+        if let Err(fault) = judge_part(alloc, units, &facts, &usages, &mut reach) {
             return Err(fault);
         }
     }

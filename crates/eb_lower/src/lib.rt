@@ -1,12 +1,10 @@
 //! The rules of names: what is declared and what is used in a text.
 #![tactic(auto)]
 
-mod declarations;
 mod facts;
 mod fault;
 mod judging;
 mod known;
-mod repeats;
 mod unsupported;
 mod usages;
 

@@ -2,8 +2,8 @@
 use Rattle.std.proofs.Common.{◌≡◌, ◌∙◌, ◌⊎◌, inl, inr, ◌≤◌, ◌<◌, ◌+◌, ℕ, zero, suc, max, min, Bool, true, false, List, [], ◌∷◌, ◌++◌, length, refl, sym, ap, subst, arith, IsTrue, append_assoc, length-append}
 use Rattle.std.specs.Prelude.{Option, Some, None, Result, Ok, Err, nat_le, nat_lt}
 use Rattle.std.proofs.lemmas.Bool.Decides.{nat_tests}
-use Rattle.eb_lexer.specs.declared.token.Sign.{Sign}
-use Rattle.eb_lexer.specs.declared.token.Sign.TheVariants as sign
+use Rattle.eb_signs.specs.declared.sign.Sign.{Sign}
+use Rattle.eb_signs.specs.declared.sign.Sign.TheVariants as sign
 use Rattle.eb_lexer.specs.declared.token.Token.{Token}
 use Rattle.eb_syntax.specs.declared.ast.Ast.{Ast}
 use Rattle.eb_syntax.specs.declared.ast.Prefix.{Prefix}
@@ -19,16 +19,16 @@ use Rattle.eb_syntax.specs.Asts as tree
 use Rattle.eb_parser.specs.declared.part.Part.{Part}
 use Rattle.eb_parser.specs.declared.fault.Fault.{Fault}
 use Rattle.eb_parser.specs.declared.fault.Fault.TheVariants.{Syntax, TooDeep}
-use Rattle.eb_parser.specs.declared.table.Group.TheVariants as g
+use Rattle.eb_signs.specs.declared.levels.Group.TheVariants as g
 use Rattle.eb_parser.specs.declared.table.Start.{Start}
 use Rattle.eb_parser.specs.declared.table.Start.TheVariants as start
 use Rattle.eb_parser.specs.declared.table.Follow.{Follow}
 use Rattle.eb_parser.specs.declared.table.Follow.TheVariants as follow
-use Rattle.eb_parser.specs.Levels as level
-use Rattle.eb_parser.specs.Levels.{is_pred, is_expr}
+use Rattle.eb_signs.specs.Levels as level
+use Rattle.eb_signs.specs.Levels.{is_pred, is_expr, group_of, level_of, admits, right_of, takes, constant_level, prefix_level, prefix_takes, call_level, call_takes}
 use Rattle.eb_parser.specs.Signs.{IsSign, is_sign, constant_sign, prefix_sign, call_sign, quantifier_sign, binder_sign, closing_sign}
-use Rattle.eb_lexer.specs.Signs.{same_sign}
-use Rattle.eb_parser.specs.Grammar.{Derives, Exprs, Names, Binding, d_number, d_identifier, d_primed, d_constant, d_prefix, d_quantifier, d_call, d_partition, d_parentheses, d_binder, d_empty, d_extension, d_comprehension, d_builder, d_inverse, d_operator, e_last, e_more, Closes, group_of, level_of, admits, right_of, takes, constant_level, prefix_level, prefix_takes, call_level, call_takes, leaf, prefixed, called, bracketed, inverted, joined, quantified, bound_by, comprehended, built, empty_braces, extended, partitioned}
+use Rattle.eb_signs.specs.Signs.{same_sign}
+use Rattle.eb_parser.specs.Grammar.{Derives, Exprs, Names, Binding, d_number, d_identifier, d_primed, d_constant, d_prefix, d_quantifier, d_call, d_partition, d_parentheses, d_binder, d_empty, d_extension, d_comprehension, d_builder, d_inverse, d_operator, e_last, e_more, Closes, leaf, prefixed, called, bracketed, inverted, joined, quantified, bound_by, comprehended, built, empty_braces, extended, partitioned}
 use Rattle.eb_parser.specs.steps.Tables.{start_of, follow_of, follow_kind, head_follow, row_of}
 use Rattle.eb_parser.specs.steps.Climbing.{Reader, begins, after_sign, after_closing, separator, names, leaf_at, prefix_at, predicate, quantifier_at, call_least, call_at, parentheses_at, row_on, row, row_after, partition_at, body, binder_at, comprehension_at, builder_at, extension_at, members_at, brace_by, brace_at, begun_by, primary_by, primary, goes_on, next_follow, operand_at, turn, resume, climb, read}
 use Rattle.eb_parser.proofs.SignLaws.{sign_is, sign_other, follow_sign, follows_sign, constant_starts, prefix_starts, quantifier_starts, binder_starts, call_starts}

@@ -2,18 +2,18 @@
 use Rattle.std.proofs.Common.{◌≡◌, ◌∙◌, ◌≤◌, ◌<◌, ℕ, min, Bool, true, false, List, ◌∷◌, refl, sym, ap, subst, arith, IsTrue}
 use Rattle.std.specs.Prelude.{Option, Some, None, nat_le, ◌||◌, not}
 use Rattle.std.proofs.lemmas.Bool.Decides.{nat_tests}
-use Rattle.eb_lexer.specs.declared.token.Sign.{Sign}
+use Rattle.eb_signs.specs.declared.sign.Sign.{Sign}
 use Rattle.eb_lexer.specs.declared.token.Token.{Token}
 use Rattle.eb_syntax.specs.declared.ast.Prefix.{Prefix}
 use Rattle.eb_syntax.specs.declared.ast.Prefix.TheVariants as prefix
 use Rattle.eb_parser.specs.declared.part.Part.{Part}
-use Rattle.eb_parser.specs.declared.table.Group.{Group}
-use Rattle.eb_parser.specs.declared.table.Group.TheVariants as g
+use Rattle.eb_signs.specs.declared.levels.Group.{Group}
+use Rattle.eb_signs.specs.declared.levels.Group.TheVariants as g
 use Rattle.eb_parser.specs.declared.table.Follow.{Follow}
-use Rattle.eb_parser.specs.Levels as level
-use Rattle.eb_parser.specs.Levels.{is_pred, is_expr}
+use Rattle.eb_signs.specs.Levels as level
+use Rattle.eb_signs.specs.Levels.{is_pred, is_expr, group_of, level_of, admits, right_of, takes, prefix_level, prefix_takes}
 use Rattle.eb_parser.specs.Signs.{IsSign}
-use Rattle.eb_parser.specs.Grammar.{Derives, d_number, d_identifier, d_primed, d_constant, d_prefix, d_quantifier, d_call, d_partition, d_parentheses, d_binder, d_empty, d_extension, d_comprehension, d_builder, d_inverse, d_operator, group_of, level_of, admits, right_of, takes, prefix_level, prefix_takes}
+use Rattle.eb_parser.specs.Grammar.{Derives, d_number, d_identifier, d_primed, d_constant, d_prefix, d_quantifier, d_call, d_partition, d_parentheses, d_binder, d_empty, d_extension, d_comprehension, d_builder, d_inverse, d_operator}
 use Rattle.eb_parser.specs.steps.Tables.{follow_of, follow_kind, head_follow, row_of}
 use Rattle.eb_parser.proofs.SignLaws.{follow_sign, follows_sign}
 

@@ -1,9 +1,9 @@
 -- Equations of the reader, for its code.
 use Rattle.std.proofs.Common.{◌≡◌, ◌∙◌, ◌≤◌, ◌<◌, ◌-◌, ℕ, zero, suc, refl, sym, ap, arith, append_assoc}
-use Rattle.std.specs.Prelude.{Option, Some, None, if◌then◌else◌, Result, Ok, Err, Bool, true, false, cond, max, List, [], ◌∷◌, ◌++◌, nat_lt}
+use Rattle.std.specs.Prelude.{Option, Some, None, if◌then◌else◌, Result, Ok, Err, Bool, true, false, cond, max, List, [], ◌∷◌, ◌++◌, length, nat_lt, nat_le}
 use Rattle.std.proofs.lemmas.Bool.Decides.{nat_tests}
 use Rattle.eb_lexer.specs.declared.token.Token.{Token}
-use Rattle.eb_lexer.specs.declared.token.Sign.TheVariants as s
+use Rattle.eb_signs.specs.declared.sign.Sign.TheVariants as s
 use Rattle.eb_syntax.specs.declared.ast.Ast.{Ast}
 use Rattle.eb_syntax.specs.declared.ast.Mark.{Mark}
 use Rattle.eb_syntax.specs.declared.ast.Identifier.{Identifier}
@@ -13,9 +13,16 @@ use Rattle.eb_parser.specs.declared.fault.Fault.TheVariants.{Syntax, TooDeep}
 use Rattle.eb_parser.specs.declared.fault.Stop.{Stop}
 use Rattle.eb_parser.specs.declared.fault.Stop.TheVariants as stopped
 use Rattle.eb_parser.specs.declared.table.Follow.{Follow}
-use Rattle.eb_parser.specs.Levels as level
+use Rattle.eb_syntax.specs.declared.ast.Prefix.{Prefix}
+use Rattle.eb_syntax.specs.declared.ast.Call.{Call}
+use Rattle.eb_syntax.specs.declared.ast.Operator.{Operator}
+use Rattle.eb_signs.specs.declared.sign.Sign.{Sign}
+use Rattle.eb_signs.specs.Levels as level
+use Rattle.eb_signs.specs.Levels.{is_pred, group_of, right_of, takes, prefix_level, prefix_takes, call_level, call_takes}
+use Rattle.eb_parser.specs.Signs.{closing_sign}
+use Rattle.eb_parser.specs.Grammar.{prefixed, called, bracketed, comprehended, built, extended, partitioned}
 use Rattle.eb_parser.specs.steps.Tables.{head_follow}
-use Rattle.eb_parser.specs.steps.Climbing.{◌>>=◌, Reader, Reading, Listing, Naming, Marking, primary, climb, read, names, name_at, separator, pattern, mark_at, state_after, ends_pattern, marks_on, row, row_on, row_after, begins, after_first, turn, tried, next_follow, resume, Fails}
+use Rattle.eb_parser.specs.steps.Climbing.{◌>>=◌, Reader, Reading, Listing, Naming, Marking, primary, climb, read, names, name_at, separator, pattern, mark_at, state_after, ends_pattern, marks_on, row, row_on, row_after, begins, after_first, turn, tried, next_follow, resume, Fails, reading, after_sign, after_closing, behind, closed, leaf_at, prefix_at, predicate, call_at, call_least, parentheses_at, partition_at, body, comprehension_at, builder_at, extension_at, operand_at}
 
 pub read_zero : (k : ℕ) (ts : List Token) → read 0 k ts ≡ Err TooDeep
 unfolding read
@@ -224,3 +231,92 @@ climb_last inner n k (suc m) p ts f e h = absurd (omega arith)
 pub fails_at : {X : Type 0} (e : Stop) (f : Fault) (x : Result X Fault) → e ≡ stopped.Fault f → Fails e x → x ≡ Err f
 fails_at stopped.Memory f x i h = absurd cc
 fails_at (stopped.Fault g) f x i h = let s : g ≡ f = cc in h ∙ ap Err s
+
+-- ---- formulas with the sign that closes them
+
+bind_same : {A B : Type 0} (r : Result A Fault) (f g : A → Result B Fault) → ((x : A) → f x ≡ g x) → (r >>= f) ≡ (r >>= g)
+bind_same (Ok x) f g h = h x
+bind_same (Err e) f g h = refl
+
+put_behind : (r : Result (List Token) Fault) (f : Part → Part) (p : Part) → (r >>= λ us. reading (f p) us) ≡ ((r >>= λ us. reading p us) >>= λ y. reading (f y.0) y.1)
+put_behind (Ok us) f p = refl
+put_behind (Err e) f p = refl
+
+closed_then : (b : Bool) (sign : Option Sign) (f : Part → Part) (p : Part) (ts : List Token)
+    → (if b then (after_closing sign ts >>= λ us. reading (f p) us) else Err Syntax) ≡ (closed b sign p ts >>= λ y. reading (f y.0) y.1)
+unfolding closed behind
+closed_then true sign f p ts = put_behind (after_closing sign ts) f p
+closed_then false sign f p ts = refl
+
+stands : (b : Bool) (sign : Option Sign) (p : Part) (ts : List Token) → (if b then (after_closing sign ts >>= λ us. reading p us) else Err Syntax) ≡ closed b sign p ts
+unfolding closed behind
+stands true sign p ts = refl
+stands false sign p ts = refl
+
+pub leaf_closed : (k : ℕ) (p : Part) (ts : List Token) → leaf_at k p ts ≡ closed (nat_le k p.level) None p ts
+unfolding leaf_at
+leaf_closed k p ts = stands (nat_le k p.level) None p ts
+
+behind_any : {B : Type 0} (r : Result (List Token) Fault) (p : Part) (g : Part → List Token → Result B Fault)
+    → (r >>= λ us. g p us) ≡ ((r >>= λ us. reading p us) >>= λ y. g y.0 y.1)
+behind_any (Ok us) p g = refl
+behind_any (Err e) p g = refl
+
+guarded : {A : Type 0} (b : Bool) (r q : Result A Fault) → r ≡ q → (if b then r else Err Syntax) ≡ (if b then q else Err Syntax)
+guarded b r q e = ap (λ z. if b then z else Err Syntax) e
+
+pub prefix_closed : (inner : Reader) (k : ℕ) (t : Token) (op : Prefix) (ts : List Token)
+    → prefix_at inner k t op ts ≡ (if nat_le k (prefix_level op) then (inner (prefix_level op) ts >>= λ x. closed (prefix_takes op (x.0).level) None x.0 x.1 >>= λ y. Ok (prefixed t op y.0, y.1)) else Err Syntax)
+unfolding prefix_at
+prefix_closed inner k t op ts = guarded (nat_le k (prefix_level op)) _ _
+    (bind_same (inner (prefix_level op) ts) _ _ (λ x. closed_then (prefix_takes op (x.0).level) None (prefixed t op) x.0 x.1))
+
+pub predicate_closed : (inner : Reader) (ts : List Token) → predicate inner ts ≡ (inner level.pred ts >>= λ x. closed (is_pred (x.0).level) None x.0 x.1)
+unfolding predicate
+predicate_closed inner ts = bind_same (inner level.pred ts) _ _ (λ x. stands (is_pred (x.0).level) None x.0 x.1)
+
+pub call_closed : (inner : Reader) (k : ℕ) (t : Token) (op : Call) (ts : List Token)
+    → call_at inner k t op ts ≡ (if nat_le k (call_level op) then
+    (after_sign s.LeftParenthesis ts >>= λ us. inner (call_least op) us >>= λ x. closed (call_takes op (x.0).level) (Some s.RightParenthesis) x.0 x.1 >>= λ y. Ok (called t op y.0, y.1)) else Err Syntax)
+unfolding call_at
+call_closed inner k t op ts = guarded (nat_le k (call_level op)) _ _
+    (bind_same (after_sign s.LeftParenthesis ts) _ _ (λ us. bind_same (inner (call_least op) us) _ _
+    (λ x. closed_then (call_takes op (x.0).level) (Some s.RightParenthesis) (called t op) x.0 x.1)))
+
+pub parentheses_closed : (inner : Reader) (k : ℕ) (t : Token) (ts : List Token)
+    → parentheses_at inner k t ts ≡ (inner level.pred ts >>= λ x. closed true (Some s.RightParenthesis) x.0 x.1 >>= λ y. leaf_at k (bracketed t y.0) y.1)
+unfolding parentheses_at closed behind leaf_at
+parentheses_closed inner k t ts = bind_same (inner level.pred ts) _ _
+    (λ x. behind_any (after_sign s.RightParenthesis x.1) x.0 (λ p us. leaf_at k (bracketed t p) us))
+
+pub partition_closed : (inner : Reader) (k : ℕ) (t : Token) (ts : List Token)
+    → partition_at inner k t ts ≡ (if nat_le k level.lit then
+    (after_sign s.LeftParenthesis ts >>= λ us. inner level.expr us >>= λ x. row_after inner (length x.1) x.0 x.1 >>= λ y. closed true (Some s.RightParenthesis) (partitioned t y.0 y.1) y.2) else Err Syntax)
+unfolding partition_at closed behind
+partition_closed inner k t ts = refl
+
+pub body_closed : (inner : Reader) (ts : List Token)
+    → body inner ts ≡ (predicate inner ts >>= λ x. closed true (Some s.Bar) x.0 x.1 >>= λ z. inner level.expr z.1 >>= λ y. Ok (z.0, y.0, y.1))
+unfolding body closed behind
+body_closed inner ts = bind_same (predicate inner ts) _ _
+    (λ x. behind_any (after_sign s.Bar x.1) x.0 (λ p us. inner level.expr us >>= λ y. Ok (p, y.0, y.1)))
+
+pub comprehension_closed : (inner : Reader) (t : Token) (xs : List Identifier) (ts : List Token)
+    → comprehension_at inner t xs ts ≡ (body inner ts >>= λ x. closed true (Some s.RightBrace) (comprehended t xs x.0 x.1) x.2)
+unfolding comprehension_at closed behind
+comprehension_closed inner t xs ts = refl
+
+pub builder_closed : (inner : Reader) (t : Token) (p : Part) (ts : List Token)
+    → builder_at inner t p ts ≡ (predicate inner ts >>= λ x. closed true (Some s.RightBrace) (built t p x.0) x.1)
+unfolding builder_at closed behind
+builder_closed inner t p ts = refl
+
+pub extension_closed : (inner : Reader) (t : Token) (p : Part) (ts : List Token)
+    → extension_at inner t p ts ≡ (row_after inner (length ts) p ts >>= λ x. closed true (Some s.RightBrace) (extended t x.0 x.1) x.2)
+unfolding extension_at closed behind
+extension_closed inner t p ts = refl
+
+pub operand_closed : (inner : Reader) (op : Operator) (ts : List Token)
+    → operand_at inner op ts ≡ (inner (right_of (group_of op)) ts >>= λ x. closed (takes (group_of op) (x.0).level) (closing_sign op) x.0 x.1)
+unfolding operand_at
+operand_closed inner op ts = bind_same (inner (right_of (group_of op)) ts) _ _ (λ x. stands (takes (group_of op) (x.0).level) (closing_sign op) x.0 x.1)

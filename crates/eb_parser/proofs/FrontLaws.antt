@@ -1,7 +1,7 @@
 -- The laws of the formulas at the front of tokens.
-use Rattle.std.proofs.Common.{◌≡◌, ◌∙◌, ◌≤◌, ◌<◌, ◌+◌, ◌-◌, ℕ, true, false, cond, List, [], ◌∷◌, ◌++◌, length, take, drop, refl, sym, ap, subst, arith, IsTrue, length-append, length-drop}
-use Rattle.std.specs.Prelude.{Ok, Err, Result}
-use Rattle.eb_lexer.specs.declared.token.Sign.TheVariants as sign
+use Rattle.std.proofs.Common.{◌≡◌, ◌∙◌, ◌≤◌, ◌<◌, ◌+◌, ◌-◌, ℕ, true, false, cond, List, ◌∷◌, ◌++◌, length, take, drop, refl, sym, ap, subst, arith, length-append, length-drop}
+use Rattle.std.specs.Prelude.{Ok, Err}
+use Rattle.eb_signs.specs.declared.sign.Sign.TheVariants as sign
 use Rattle.eb_lexer.specs.declared.token.Token.{Token}
 use Rattle.eb_lexer.specs.declared.token.TokenKind.TheVariants as kind
 use Rattle.eb_syntax.specs.declared.ast.Ast.{Ast}
@@ -11,8 +11,7 @@ use Rattle.eb_parser.specs.declared.formulas.FormulaKind.{FormulaKind}
 use Rattle.eb_parser.specs.Signs.{IsSign}
 use Rattle.eb_parser.specs.Grammar.{Derives}
 use Rattle.eb_parser.specs.Formulas.{fits, least_of, Continues}
-use Rattle.eb_parser.specs.steps.Tables.{start_of}
-use Rattle.eb_parser.specs.steps.Climbing.{◌>>=◌, read, primary_by, begun_by}
+use Rattle.eb_parser.specs.steps.Climbing.{◌>>=◌, read, primary_by}
 use Rattle.eb_parser.specs.Fronts.{Front}
 use Rattle.eb_parser.specs.steps.Finding.{of_kind, formula_at, FrontLaws}
 use Rattle.eb_parser.proofs.Steps.{ok_inj, bind_ok, guard_ok}

@@ -3,7 +3,7 @@ use Rattle.std.proofs.Common.{◌≡◌, ◌∙◌, ◌⊎◌, inl, inr, ◌≤�
 use Rattle.std.proofs.Math.Seq.{take-append_seam}
 use Rattle.std.specs.Prelude.{take, Option, Some, None, Ok, Err, nat_lt}
 use Rattle.std.proofs.lemmas.Bool.Decides.{nat_tests}
-use Rattle.eb_lexer.specs.declared.token.Sign.TheVariants as sign
+use Rattle.eb_signs.specs.declared.sign.Sign.TheVariants as sign
 use Rattle.eb_lexer.specs.declared.token.Token.{Token}
 use Rattle.eb_syntax.specs.declared.ast.Prefix.{Prefix}
 use Rattle.eb_syntax.specs.declared.ast.Prefix.TheVariants as prefix
@@ -15,15 +15,15 @@ use Rattle.eb_syntax.specs.declared.ast.Identifier.{Identifier}
 use Rattle.eb_syntax.specs.Asts as tree
 use Rattle.eb_parser.specs.declared.part.Part.{Part}
 use Rattle.eb_parser.specs.declared.fault.Fault.TheVariants.{Syntax, TooDeep}
-use Rattle.eb_parser.specs.declared.table.Group.{Group}
-use Rattle.eb_parser.specs.declared.table.Group.TheVariants as g
+use Rattle.eb_signs.specs.declared.levels.Group.{Group}
+use Rattle.eb_signs.specs.declared.levels.Group.TheVariants as g
 use Rattle.eb_parser.specs.declared.table.Start.TheVariants as start
 use Rattle.eb_parser.specs.declared.table.Follow.{Follow}
 use Rattle.eb_parser.specs.declared.table.Follow.TheVariants as follow
-use Rattle.eb_parser.specs.Levels as level
-use Rattle.eb_parser.specs.Levels.{is_pred, is_expr}
+use Rattle.eb_signs.specs.Levels as level
+use Rattle.eb_signs.specs.Levels.{is_pred, is_expr, group_of, level_of, admits, right_of, takes, joins_predicates, constant_level, prefix_level, prefix_takes}
 use Rattle.eb_parser.specs.Signs.{IsSign, prefix_sign, quantifier_sign, binder_sign, operator_sign, closing_sign}
-use Rattle.eb_parser.specs.Grammar.{Derives, Names, Binding, d_number, d_identifier, d_primed, d_constant, d_prefix, d_quantifier, d_call, d_partition, d_parentheses, d_binder, d_empty, d_extension, d_comprehension, d_builder, d_inverse, d_operator, Closes, group_of, level_of, admits, right_of, takes, joins_predicates, constant_level, prefix_level, prefix_takes, leaf, prefixed, called, bracketed, inverted, joined, quantified, bound_by, comprehended, built, empty_braces, extended, partitioned}
+use Rattle.eb_parser.specs.Grammar.{Derives, Names, Binding, d_number, d_identifier, d_primed, d_constant, d_prefix, d_quantifier, d_call, d_partition, d_parentheses, d_binder, d_empty, d_extension, d_comprehension, d_builder, d_inverse, d_operator, Closes, leaf, prefixed, called, bracketed, inverted, joined, quantified, bound_by, comprehended, built, empty_braces, extended, partitioned}
 use Rattle.eb_parser.specs.steps.Tables.{head_follow, row_of}
 use Rattle.eb_parser.specs.steps.Climbing.{Reader, Reading, after_first, after_closing, operand_at, reading, joins, primary, predicate, body, binder_at, turn, resume, stop, go_on, climb, next_follow, read}
 use Rattle.eb_parser.proofs.SignLaws.{prefix_starts, quantifier_starts, binder_starts}

@@ -2,8 +2,8 @@
 use Rattle.std.proofs.Common.{◌≡◌, ◌∙◌, ◌≤◌, ◌+◌, ◌-◌, ℕ, zero, suc, Bool, true, false, cond, List, [], ◌∷◌, ◌++◌, length, refl, sym, ap, subst, arith, append_assoc, length-append}
 use Rattle.std.specs.Prelude.{Result, Ok, Err, ◌&&◌, ◌==◌}
 use Rattle.std.proofs.lemmas.Bool.Decides.{nat_tests}
-use Rattle.eb_lexer.specs.declared.token.Sign.{Sign}
-use Rattle.eb_lexer.specs.declared.token.Sign.TheVariants as s
+use Rattle.eb_signs.specs.declared.sign.Sign.{Sign}
+use Rattle.eb_signs.specs.declared.sign.Sign.TheVariants as s
 use Rattle.eb_lexer.specs.declared.token.Token.{Token}
 use Rattle.eb_lexer.specs.declared.token.TokenKind.{TokenKind}
 use Rattle.eb_lexer.specs.declared.token.TokenKind.TheVariants as kind
@@ -17,7 +17,7 @@ use Rattle.eb_syntax.specs.declared.ast.Identifier.{Identifier}
 use Rattle.eb_parser.specs.declared.fault.Fault.{Fault}
 use Rattle.eb_parser.specs.declared.fault.Fault.TheVariants.{Syntax}
 use Rattle.eb_parser.specs.Signs.{IsSign, is_sign}
-use Rattle.eb_lexer.specs.Signs.{same_sign}
+use Rattle.eb_signs.specs.Signs.{same_sign}
 use Rattle.eb_parser.specs.Grammar.{Names, n_last, n_more, Pattern, p_atom, p_maplet, Atom, a_identifier, a_parentheses, Binding, b_pattern, b_union, b_intersection, bound_at}
 use Rattle.eb_parser.specs.steps.Climbing.{◌>>=◌, Naming, Marking, begins, after_first, names, names_on, name_at, name_of, separator, pattern, mark_at, mark_of, sign_mark, state_after, ends_pattern, marks_on, binding}
 use Rattle.eb_parser.proofs.SignLaws.{sign_is, sign_other}

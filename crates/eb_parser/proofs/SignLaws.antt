@@ -2,9 +2,9 @@
 use Rattle.std.proofs.Common.{◌≡◌, ◌∙◌, true, false, refl, ap}
 use Rattle.std.specs.Prelude.{Option, Some, None}
 use denote.Enum.Bare.{same_true, true_same}
-use Rattle.eb_lexer.specs.contracts.token.Sign.{the_type}
-use Rattle.eb_lexer.specs.declared.token.Sign.{Sign}
-use Rattle.eb_lexer.specs.declared.token.Sign.TheVariants as s
+use Rattle.eb_signs.specs.contracts.sign.Sign.{the_type}
+use Rattle.eb_signs.specs.declared.sign.Sign.{Sign}
+use Rattle.eb_signs.specs.declared.sign.Sign.TheVariants as s
 use Rattle.eb_lexer.specs.declared.token.Token.{Token}
 use Rattle.eb_lexer.specs.declared.token.TokenKind.{TokenKind}
 use Rattle.eb_lexer.specs.declared.token.TokenKind.TheVariants as kind
@@ -25,7 +25,8 @@ use Rattle.eb_parser.specs.declared.table.Start.TheVariants as start
 use Rattle.eb_parser.specs.declared.table.Follow.{Follow}
 use Rattle.eb_parser.specs.declared.table.Follow.TheVariants as follow
 use Rattle.eb_parser.specs.Signs.{IsSign, is_sign, constant_sign, prefix_sign, call_sign, quantifier_sign, binder_sign, operator_sign}
-use Rattle.eb_lexer.specs.Signs.{same_sign, is_kind}
+use Rattle.eb_signs.specs.Signs.{same_sign}
+use Rattle.eb_lexer.specs.Tokens.{is_kind}
 use Rattle.eb_parser.specs.steps.Tables.{start_of, follow_of, follow_kind}
 
 kind_true : (sign : Sign) (k : TokenKind) → is_kind sign k ≡ true → k ≡ kind.Sign sign

@@ -2,8 +2,8 @@
 use Rattle.std.proofs.Common.{◌≡◌, ◌∙◌, ◌≤◌, ◌<◌, ℕ, zero, suc, max, Bool, true, false, cond, List, [], ◌∷◌, ◌++◌, length, refl, sym, ap, subst, arith, IsTrue, append_assoc}
 use Rattle.std.specs.Prelude.{Option, Some, None, Result, Ok, Err, nat_le, nat_lt}
 use Rattle.std.proofs.lemmas.Bool.Decides.{nat_tests}
-use Rattle.eb_lexer.specs.declared.token.Sign.{Sign}
-use Rattle.eb_lexer.specs.declared.token.Sign.TheVariants as sign
+use Rattle.eb_signs.specs.declared.sign.Sign.{Sign}
+use Rattle.eb_signs.specs.declared.sign.Sign.TheVariants as sign
 use Rattle.eb_lexer.specs.declared.token.Token.{Token}
 use Rattle.eb_lexer.specs.declared.token.TokenKind.{TokenKind}
 use Rattle.eb_lexer.specs.declared.token.TokenKind.TheVariants as kind
@@ -21,10 +21,10 @@ use Rattle.eb_parser.specs.declared.table.Start.{Start}
 use Rattle.eb_parser.specs.declared.table.Start.TheVariants as start
 use Rattle.eb_parser.specs.declared.table.Follow.{Follow}
 use Rattle.eb_parser.specs.declared.table.Follow.TheVariants as follow
-use Rattle.eb_parser.specs.Levels as level
-use Rattle.eb_parser.specs.Levels.{is_pred, is_expr}
+use Rattle.eb_signs.specs.Levels as level
+use Rattle.eb_signs.specs.Levels.{is_pred, is_expr, group_of, right_of, takes, constant_level, prefix_level, prefix_takes, call_level, call_takes}
 use Rattle.eb_parser.specs.Signs.{IsSign, prefix_sign, call_sign, quantifier_sign, binder_sign, closing_sign}
-use Rattle.eb_parser.specs.Grammar.{Derives, Exprs, Names, d_number, d_identifier, d_primed, d_constant, d_prefix, d_quantifier, d_call, d_partition, d_parentheses, d_binder, d_empty, d_extension, d_comprehension, d_builder, d_inverse, d_operator, e_last, e_more, group_of, right_of, takes, constant_level, prefix_level, prefix_takes, call_level, call_takes, leaf, bracketed, joined, empty_braces}
+use Rattle.eb_parser.specs.Grammar.{Derives, Exprs, Names, d_number, d_identifier, d_primed, d_constant, d_prefix, d_quantifier, d_call, d_partition, d_parentheses, d_binder, d_empty, d_extension, d_comprehension, d_builder, d_inverse, d_operator, e_last, e_more, leaf, bracketed, joined, empty_braces}
 use Rattle.eb_parser.specs.steps.Tables.{start_of, head_follow}
 use Rattle.eb_parser.specs.steps.Climbing.{◌>>=◌, Reader, Reading, Listing, begins, after_first, after_sign, after_closing, names, binding, leaf_at, prefix_at, predicate, quantifier_at, call_least, call_at, parentheses_at, row_on, row, row_after, partition_at, body, binder_at, comprehension_at, builder_at, extension_at, members_at, brace_by, brace_at, begun_by, primary_by, primary, next_follow, operand_at, reading, joins, turn, resume, stop, go_on, climb, read}
 use Rattle.eb_parser.proofs.SignLaws.{start_means}

@@ -2,13 +2,14 @@
 use Rattle.std.proofs.Common.{◌≡◌, ◌∙◌, ◌≤◌, ℕ, Bool, true, false, cond, List, [], ◌∷◌, ◌++◌, refl, ap, subst, arith, IsTrue}
 use Rattle.std.specs.Prelude.{Option, Some, None, Result, Ok, Err}
 use Rattle.std.proofs.lemmas.Bool.Decides.{nat_tests}
-use Rattle.eb_lexer.specs.declared.token.Sign.{Sign}
+use Rattle.eb_signs.specs.declared.sign.Sign.{Sign}
 use Rattle.eb_lexer.specs.declared.token.Token.{Token}
 use Rattle.eb_parser.specs.declared.part.Part.{Part}
 use Rattle.eb_parser.specs.declared.fault.Fault.{Fault}
 use Rattle.eb_parser.specs.declared.table.Follow.{Follow}
 use Rattle.eb_parser.specs.Signs.{IsSign}
-use Rattle.eb_parser.specs.Grammar.{level_of, admits, Closes}
+use Rattle.eb_signs.specs.Levels.{level_of, admits}
+use Rattle.eb_parser.specs.Grammar.{Closes}
 use Rattle.eb_parser.specs.steps.Tables.{head_follow, row_of}
 use Rattle.eb_parser.specs.steps.Climbing.{◌>>=◌, begins, after_first, after_sign, after_closing, goes_on, next_follow}
 use Rattle.eb_parser.proofs.SignLaws.{sign_true, sign_is, follow_sign, kind_follow}

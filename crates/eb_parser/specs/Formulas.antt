@@ -1,7 +1,7 @@
 -- The formulas that stand at a place of some tokens.
 use Rattle.std.specs.Prelude.{◌≡◌, ℕ, ◌-◌, ◌≤◌, ◌<◌, ◌⊎◌, Bool, true, false, not, IsTrue, List, [], ◌∷◌, length, take, drop, take_while, ⊤}
-use Rattle.eb_lexer.specs.declared.token.Sign.{Sign}
-use Rattle.eb_lexer.specs.declared.token.Sign.TheVariants as s
+use Rattle.eb_signs.specs.declared.sign.Sign.{Sign}
+use Rattle.eb_signs.specs.declared.sign.Sign.TheVariants as s
 use Rattle.eb_lexer.specs.declared.token.Token.{Token}
 use Rattle.eb_lexer.specs.declared.token.TokenKind.{TokenKind}
 use Rattle.eb_lexer.specs.declared.token.TokenKind.TheVariants as kind
@@ -12,8 +12,8 @@ use Rattle.eb_parser.specs.declared.fault.ParseFault.{ParseFault}
 use Rattle.eb_parser.specs.declared.fault.ParseFault.TheVariants as fault
 use Rattle.eb_parser.specs.declared.formulas.FormulaKind.{FormulaKind}
 use Rattle.eb_parser.specs.declared.formulas.FormulaKind.TheVariants as formula
-use Rattle.eb_parser.specs.Levels as level
-use Rattle.eb_parser.specs.Levels.{is_pred, is_expr}
+use Rattle.eb_signs.specs.Levels as level
+use Rattle.eb_signs.specs.Levels.{is_pred, is_expr}
 use Rattle.eb_parser.specs.Signs.{IsSign, operator_sign}
 use Rattle.eb_parser.specs.Grammar.{Derives}
 

@@ -16,20 +16,16 @@
 -- names are identifiers and exprs expressions, parted by ",". After a quantified predicate no connective follows at its
 -- level of brackets. A level (see Levels) names the production of a formula's head, so "at least at sum" says: a sum, or
 -- what a sum may be.
-use Rattle.std.specs.Prelude.{ℕ, ℤ, ◌+◌, max, Bool, true, false, ◌&&◌, ◌||◌, ◌==◌, ◌≡◌, if◌then◌else◌, nat_le, List, [], ◌∷◌, ◌++◌, IsTrue, Option, Some, None}
-use Rattle.eb_lexer.specs.declared.token.Sign.{Sign}
-use Rattle.eb_lexer.specs.declared.token.Sign.TheVariants as s
+use Rattle.std.specs.Prelude.{ℕ, ℤ, ◌+◌, max, true, false, ◌≡◌, if◌then◌else◌, List, [], ◌∷◌, ◌++◌, IsTrue, Option, Some, None}
+use Rattle.eb_signs.specs.declared.sign.Sign.{Sign}
+use Rattle.eb_signs.specs.declared.sign.Sign.TheVariants as s
 use Rattle.eb_lexer.specs.declared.token.Token.{Token}
 use Rattle.eb_lexer.specs.declared.token.TokenKind.TheVariants as kind
 use Rattle.eb_syntax.specs.declared.ast.Ast.{Ast}
 use Rattle.eb_syntax.specs.declared.ast.Constant.{Constant}
-use Rattle.eb_syntax.specs.declared.ast.Constant.TheVariants as constant
 use Rattle.eb_syntax.specs.declared.ast.Prefix.{Prefix}
-use Rattle.eb_syntax.specs.declared.ast.Prefix.TheVariants as prefix
 use Rattle.eb_syntax.specs.declared.ast.Call.{Call}
-use Rattle.eb_syntax.specs.declared.ast.Call.TheVariants as call
 use Rattle.eb_syntax.specs.declared.ast.Operator.{Operator}
-use Rattle.eb_syntax.specs.declared.ast.Operator.TheVariants as op
 use Rattle.eb_syntax.specs.declared.ast.Quantifier.{Quantifier}
 use Rattle.eb_syntax.specs.declared.ast.Binder.{Binder}
 use Rattle.eb_syntax.specs.declared.ast.Binder.TheVariants as binder
@@ -40,145 +36,10 @@ use Rattle.eb_syntax.specs.declared.ast.Mark.TheVariants as mark
 use Rattle.eb_syntax.specs.declared.ast.Identifier.{Identifier}
 use Rattle.eb_syntax.specs.Asts as tree
 use Rattle.eb_parser.specs.declared.part.Part.{Part}
-use Rattle.eb_parser.specs.declared.table.Group.{Group}
-use Rattle.eb_parser.specs.declared.table.Group.TheVariants as g
-use Rattle.eb_parser.specs.Levels as level
-use Rattle.eb_parser.specs.Levels.{is_pred, is_expr}
+use Rattle.eb_signs.specs.declared.levels.Group.TheVariants as g
+use Rattle.eb_signs.specs.Levels as level
+use Rattle.eb_signs.specs.Levels.{is_pred, is_expr, group_of, level_of, admits, takes, constant_level, prefix_level, prefix_takes, call_level, call_takes}
 use Rattle.eb_parser.specs.Signs.{IsSign, constant_sign, prefix_sign, call_sign, quantifier_sign, binder_sign, operator_sign, closing_sign}
-
--- The table of operators: the row of each, and for each row its own level and what stands to its left and to its right.
-abbrev pub group_of : Operator → Group
-group_of op.Implies = g.Implication
-group_of op.Equivalent = g.Implication
-group_of op.Or = g.Disjunction
-group_of op.And = g.Conjunction
-group_of op.Equal = g.Comparison
-group_of op.Unequal = g.Comparison
-group_of op.MemberOf = g.Comparison
-group_of op.NotMemberOf = g.Comparison
-group_of op.SubsetOf = g.Comparison
-group_of op.NotSubsetOf = g.Comparison
-group_of op.ProperSubsetOf = g.Comparison
-group_of op.NotProperSubsetOf = g.Comparison
-group_of op.Less = g.Comparison
-group_of op.AtMost = g.Comparison
-group_of op.Greater = g.Comparison
-group_of op.AtLeast = g.Comparison
-group_of op.MapsTo = g.Maplet
-group_of op.Relation = g.Arrow
-group_of op.TotalRelation = g.Arrow
-group_of op.SurjectiveRelation = g.Arrow
-group_of op.TotalSurjectiveRelation = g.Arrow
-group_of op.PartialFunction = g.Arrow
-group_of op.TotalFunction = g.Arrow
-group_of op.PartialInjection = g.Arrow
-group_of op.TotalInjection = g.Arrow
-group_of op.PartialSurjection = g.Arrow
-group_of op.TotalSurjection = g.Arrow
-group_of op.Bijection = g.Arrow
-group_of op.Union = g.Set
-group_of op.Intersection = g.Set
-group_of op.Difference = g.Set
-group_of op.Product = g.Set
-group_of op.ForwardComposition = g.Set
-group_of op.BackwardComposition = g.Set
-group_of op.DomainRestriction = g.Set
-group_of op.DomainSubtraction = g.Set
-group_of op.RangeRestriction = g.Set
-group_of op.RangeSubtraction = g.Set
-group_of op.Override = g.Set
-group_of op.DirectProduct = g.Set
-group_of op.ParallelProduct = g.Set
-group_of op.UpTo = g.Interval
-group_of op.Plus = g.Sum
-group_of op.Minus = g.Sum
-group_of op.Times = g.Multiplication
-group_of op.Divide = g.Multiplication
-group_of op.Modulo = g.Multiplication
-group_of op.Power = g.Exponentiation
-group_of op.Apply = g.Post
-group_of op.Image = g.Post
-
--- the level of what the operator makes
-abbrev pub level_of : Group → ℕ
-level_of g.Implication = level.pred
-level_of g.Disjunction = level.disjunction
-level_of g.Conjunction = level.conjunction
-level_of g.Comparison = level.lit
-level_of g.Maplet = level.maplet
-level_of g.Arrow = level.arrow
-level_of g.Set = level.set
-level_of g.Interval = level.range
-level_of g.Sum = level.sum
-level_of g.Multiplication = level.prod
-level_of g.Exponentiation = level.power
-level_of g.Post = level.post
-
--- what may stand to its left: a level of what is grouped to the left is among them
-abbrev pub admits : Group → ℕ → Bool
-admits g.Implication n = nat_le level.disjunction n && nat_le n level.lit
-admits g.Disjunction n = (n == level.disjunction) || (n == level.lit)
-admits g.Conjunction n = nat_le level.conjunction n && nat_le n level.lit
-admits g.Comparison n = nat_le level.expr n
-admits g.Maplet n = nat_le level.maplet n
-admits g.Arrow n = nat_le level.arrow n
-admits g.Set n = nat_le level.set n
-admits g.Interval n = nat_le level.sum n
-admits g.Sum n = nat_le level.sum n
-admits g.Multiplication n = nat_le level.prod n
-admits g.Exponentiation n = nat_le level.post n
-admits g.Post n = nat_le level.post n
-
--- the least level of what stands to its right, or in its brackets
-abbrev pub right_of : Group → ℕ
-right_of g.Implication = level.disjunction
-right_of g.Disjunction = level.lit
-right_of g.Conjunction = level.lit
-right_of g.Comparison = level.expr
-right_of g.Maplet = level.arrow
-right_of g.Arrow = level.set
-right_of g.Set = level.range
-right_of g.Interval = level.sum
-right_of g.Sum = level.prod
-right_of g.Multiplication = level.neg
-right_of g.Exponentiation = level.neg
-right_of g.Post = level.expr
-
-abbrev pub joins_predicates : Group → Bool
-joins_predicates g.Implication = true
-joins_predicates g.Disjunction = true
-joins_predicates g.Conjunction = true
-joins_predicates _ = false
-
--- what may stand to its right, or in its brackets
-abbrev pub takes : Group → ℕ → Bool
-takes g n = nat_le (right_of g) n && (if joins_predicates g then is_pred n else true)
-
--- the level of a constant
-abbrev pub constant_level : Constant → ℕ
-constant_level constant.Truth = level.lit
-constant_level constant.Falsity = level.lit
-constant_level _ = level.prim
-
--- the level of what a prefix makes, and the least of its part, which is of the same kind
-abbrev pub prefix_level : Prefix → ℕ
-prefix_level prefix.Not = level.lit
-prefix_level prefix.Minus = level.neg
-
--- "not" stands before lit, "-" before neg
-abbrev pub prefix_takes : Prefix → ℕ → Bool
-prefix_takes prefix.Not n = n == level.lit
-prefix_takes prefix.Minus n = nat_le level.neg n
-
--- "finite" makes a predicate, every other call an expression
-abbrev pub call_level : Call → ℕ
-call_level call.Finite = level.lit
-call_level _ = level.prim
-
--- "bool" is of a predicate, every other call of an expression
-abbrev pub call_takes : Call → ℕ → Bool
-call_takes call.BoolOf n = is_pred n
-call_takes _ n = is_expr n
 
 -- Formulas with their level, whether they end with the body of a quantifier, and their height: the greatest number of
 -- operators, binders, calls, braces and parentheses on a path to a leaf.

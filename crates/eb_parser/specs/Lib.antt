@@ -1,4 +1,3 @@
-pub mod Levels
 pub mod Signs
 pub mod Grammar
 pub mod Formulas

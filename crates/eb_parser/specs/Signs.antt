@@ -1,8 +1,8 @@
 -- The signs that spell what a formula is made of.
-use Rattle.std.specs.Prelude.{Bool, false, Option, Some, None, ◌≡◌}
-use Rattle.eb_lexer.specs.declared.token.Sign.{Sign}
-use Rattle.eb_lexer.specs.declared.token.Sign.TheVariants as s
-use Rattle.eb_lexer.specs.Signs.{is_kind}
+use Rattle.std.specs.Prelude.{Bool, Option, Some, None, ◌≡◌}
+use Rattle.eb_signs.specs.declared.sign.Sign.{Sign}
+use Rattle.eb_signs.specs.declared.sign.Sign.TheVariants as s
+use Rattle.eb_lexer.specs.Tokens.{is_kind}
 use Rattle.eb_lexer.specs.declared.token.Token.{Token}
 use Rattle.eb_lexer.specs.declared.token.TokenKind.TheVariants as kind
 use Rattle.eb_syntax.specs.declared.ast.Constant.{Constant}

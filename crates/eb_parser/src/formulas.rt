@@ -8,8 +8,8 @@ use super::fault::{Fault, ParseFault, Stop};
 use super::part::Part;
 use super::positions::{place_of, tokens_from};
 use super::reading::read;
-use super::table::{is_expr, is_pred, level};
 use eb_lexer::{Token, Tokens};
+use eb_signs::{is_expr, is_pred, level};
 use eb_syntax::Ast;
 use std::alloc::Global;
 
@@ -72,7 +72,7 @@ pub fn formula(
                 return Err(ParseFault::Syntax(place_of(tokens, from)));
             }
             let Part { tree, .. } = part;
-            Ok((tree, count_before(tokens, rest)))
+            Ok((tree.into_inner(), count_before(tokens, rest)))
         }
         Err(Stop::Fault(Fault::Syntax)) => Err(ParseFault::Syntax(place_of(tokens, from))),
         Err(Stop::Fault(Fault::TooDeep)) => Err(ParseFault::TooDeep),

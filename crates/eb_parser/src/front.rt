@@ -5,8 +5,9 @@ ghost use Rattle.eb_parser.specs.steps.Climbing.{Gives};
 
 use super::fault::{Fault, Stop};
 use super::part::Part;
-use super::table::{Follow, admits, follow_of, level_of, row_of};
-use eb_lexer::{Sign, Token, TokenKind};
+use super::table::{Follow, follow_of, row_of};
+use eb_lexer::{Token, TokenKind};
+use eb_signs::{Sign, admits, level_of};
 use eb_syntax::{Identifier, Mark};
 use std::alloc::Global;
 

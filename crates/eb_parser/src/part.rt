@@ -1,9 +1,10 @@
 ghost use Rattle.std.specs.Prelude.{◌≡◌, ◌<◌, ◌+◌, IfOk, ◌^◌};
 ghost use Rattle.eb_parser.specs.Grammar as spec;
+ghost use Rattle.eb_signs.specs.Levels as levels;
 ghost use Rattle.eb_syntax.specs.Asts as trees;
 
-use super::table::{call_level, constant_level, group_of, is_pred, level, level_of, prefix_level};
 use eb_lexer::Token;
+use eb_signs::{call_level, constant_level, group_of, is_pred, level, level_of, prefix_level};
 use eb_syntax::{
     Ast, Binder, Bound, Call, Constant, Identifiers, Node, Operator, Prefix, Quantifier,
 };
@@ -13,8 +14,8 @@ use std::alloc::{AllocError, Global};
 /// A formula with what its surroundings ask of it.
 #[derive(Drop)]
 pub struct Part {
-    /// The formula.
-    pub tree: Ast,
+    /// The formula. In a box, a part is let go by one call.
+    pub tree: Boxed<Ast>,
     /// The level of its head, from 0 for a predicate with `=>` to 14 for a primary expression.
     pub level: u32,
     /// It ends with the body of a quantifier.
@@ -24,30 +25,30 @@ pub struct Part {
 }
 
 /// A number, an identifier or the like at its place.
-pub(crate) fn leaf(node: Node, place: u32) -> Part
-    ensures { result ≡ spec.leaf 14 (trees.at place node) }
+pub(crate) fn leaf(alloc: Global, node: Node, place: u32) -> Result<Part, AllocError>
+    ensures { IfOk result (λ p. p ≡ spec.leaf 14 (trees.at place node)) }
 {
-    Part {
-        tree: Ast { node, place },
+    let tree = Boxed::new(alloc, Ast { node, place })?;
+    Ok(Part {
+        tree,
         level: level::PRIM,
         loose: false,
         height: 0,
-    }
+    })
 }
 
 /// A constant at its place.
-pub(crate) fn constant(constant: Constant, place: u32) -> Part
-    ensures { result ≡ spec.leaf (spec.constant_level constant) (trees.constant place constant) }
+pub(crate) fn constant(alloc: Global, constant: Constant, place: u32) -> Result<Part, AllocError>
+    ensures { IfOk result (λ p. p ≡ spec.leaf (levels.constant_level constant) (trees.constant place constant)) }
 {
-    Part {
-        tree: Ast {
-            node: Node::Constant(constant),
-            place,
-        },
+    let node = Node::Constant(constant);
+    let tree = Boxed::new(alloc, Ast { node, place })?;
+    Ok(Part {
+        tree,
         level: constant_level(constant),
         loose: false,
         height: 0,
-    }
+    })
 }
 
 /// A formula behind `not` or the `-` of a negative number, which is the token.
@@ -62,12 +63,16 @@ pub(crate) fn prefixed(
 {
     let loose = part.loose;
     let height = part.height + 1;
-    let inner = Boxed::new(alloc, part.tree)?;
-    Ok(Part {
-        tree: Ast {
-            node: Node::Prefix(prefix, inner),
+    let node = Node::Prefix(prefix, part.tree);
+    let tree = Boxed::new(
+        alloc,
+        Ast {
+            node,
             place: token.start,
         },
+    )?;
+    Ok(Part {
+        tree,
         level: prefix_level(prefix),
         loose,
         height,
@@ -85,12 +90,16 @@ pub(crate) fn called(
     ensures { IfOk result (λ p. p ≡ spec.called token.now call part) }
 {
     let height = part.height + 1;
-    let inner = Boxed::new(alloc, part.tree)?;
-    Ok(Part {
-        tree: Ast {
-            node: Node::Call(call, inner),
+    let node = Node::Call(call, part.tree);
+    let tree = Boxed::new(
+        alloc,
+        Ast {
+            node,
             place: token.start,
         },
+    )?;
+    Ok(Part {
+        tree,
         level: call_level(call),
         loose: false,
         height,
@@ -108,12 +117,16 @@ pub(crate) fn bracketed(alloc: Global, token: &Token, part: Part) -> Result<Part
     } else {
         level::PRIM
     };
-    let inner = Boxed::new(alloc, part.tree)?;
-    Ok(Part {
-        tree: Ast {
-            node: Node::Parentheses(inner),
+    let node = Node::Parentheses(part.tree);
+    let tree = Boxed::new(
+        alloc,
+        Ast {
+            node,
             place: token.start,
         },
+    )?;
+    Ok(Part {
+        tree,
         level,
         loose: false,
         height,
@@ -126,13 +139,11 @@ pub(crate) fn inverted(alloc: Global, part: Part) -> Result<Part, AllocError>
     ensures { IfOk result (λ p. p ≡ spec.inverted part) }
 {
     let height = part.height + 1;
-    let place = part.tree.place;
-    let inner = Boxed::new(alloc, part.tree)?;
+    let place = part.tree.get().place;
+    let node = Node::Inverse(part.tree);
+    let tree = Boxed::new(alloc, Ast { node, place })?;
     Ok(Part {
-        tree: Ast {
-            node: Node::Inverse(inner),
-            place,
-        },
+        tree,
         level: level::POST,
         loose: false,
         height,
@@ -153,14 +164,11 @@ pub(crate) fn joined(
     let level = level_of(group_of(operator));
     let loose = right.loose;
     let height = left.height.max(right.height) + 1;
-    let place = left.tree.place;
-    let first = Boxed::new(alloc, left.tree)?;
-    let second = Boxed::new(alloc, right.tree)?;
+    let place = left.tree.get().place;
+    let node = Node::Operator(operator, left.tree, right.tree);
+    let tree = Boxed::new(alloc, Ast { node, place })?;
     Ok(Part {
-        tree: Ast {
-            node: Node::Operator(operator, first, second),
-            place,
-        },
+        tree,
         level,
         loose,
         height,
@@ -179,12 +187,16 @@ pub(crate) fn quantified(
     ensures { IfOk result (λ p. p ≡ spec.quantified token.now quantifier names part) }
 {
     let height = part.height + 1;
-    let inner = Boxed::new(alloc, part.tree)?;
-    Ok(Part {
-        tree: Ast {
-            node: Node::Quantifier(quantifier, names, inner),
+    let node = Node::Quantifier(quantifier, names, part.tree);
+    let tree = Boxed::new(
+        alloc,
+        Ast {
+            node,
             place: token.start,
         },
+    )?;
+    Ok(Part {
+        tree,
         level: level::LIT,
         loose: true,
         height,
@@ -206,13 +218,16 @@ pub(crate) fn bound_by(
 {
     let loose = value.loose;
     let height = predicate.height.max(value.height) + 1;
-    let first = Boxed::new(alloc, predicate.tree)?;
-    let second = Boxed::new(alloc, value.tree)?;
-    Ok(Part {
-        tree: Ast {
-            node: Node::Binder(binder, bound, first, second),
+    let node = Node::Binder(binder, bound, predicate.tree, value.tree);
+    let tree = Boxed::new(
+        alloc,
+        Ast {
+            node,
             place: token.start,
         },
+    )?;
+    Ok(Part {
+        tree,
         level: level::EXPR,
         loose,
         height,
@@ -232,13 +247,16 @@ pub(crate) fn comprehended(
     ensures { IfOk result (λ p. p ≡ spec.comprehended token.now names predicate value) }
 {
     let height = predicate.height.max(value.height) + 1;
-    let first = Boxed::new(alloc, predicate.tree)?;
-    let second = Boxed::new(alloc, value.tree)?;
-    Ok(Part {
-        tree: Ast {
-            node: Node::Comprehension(names, first, second),
+    let node = Node::Comprehension(names, predicate.tree, value.tree);
+    let tree = Boxed::new(
+        alloc,
+        Ast {
+            node,
             place: token.start,
         },
+    )?;
+    Ok(Part {
+        tree,
         level: level::PRIM,
         loose: false,
         height,
@@ -257,13 +275,16 @@ pub(crate) fn built(
     ensures { IfOk result (λ p. p ≡ spec.built token.now value predicate) }
 {
     let height = value.height.max(predicate.height) + 1;
-    let first = Boxed::new(alloc, value.tree)?;
-    let second = Boxed::new(alloc, predicate.tree)?;
-    Ok(Part {
-        tree: Ast {
-            node: Node::Builder(first, second),
+    let node = Node::Builder(value.tree, predicate.tree);
+    let tree = Boxed::new(
+        alloc,
+        Ast {
+            node,
             place: token.start,
         },
+    )?;
+    Ok(Part {
+        tree,
         level: level::PRIM,
         loose: false,
         height,
@@ -271,48 +292,60 @@ pub(crate) fn built(
 }
 
 /// `{` and `}` apart.
-pub(crate) fn empty_braces(alloc: Global, token: &Token) -> Part
-    ensures { result ≡ spec.empty_braces token.now }
+pub(crate) fn empty_braces(alloc: Global, token: &Token) -> Result<Part, AllocError>
+    ensures { IfOk result (λ p. p ≡ spec.empty_braces token.now) }
 {
-    Part {
-        tree: Ast {
-            node: Node::Extension(Items::new(alloc)),
-            place: token.start,
-        },
-        level: level::PRIM,
-        loose: false,
-        height: 0,
-    }
+    leaf(alloc, Node::Extension(Items::new(alloc)), token.start)
 }
 
 /// A set of the members, the highest of which has this height; its brace is the token.
-pub(crate) fn extended(token: &Token, members: Items<Ast>, height: u32) -> Part
+pub(crate) fn extended(
+    alloc: Global,
+    token: &Token,
+    members: Items<Ast>,
+    height: u32,
+) -> Result<Part, AllocError>
     requires { height + 1 < 2 ^ 32 }
-    ensures { result ≡ spec.extended token.now members height }
+    ensures { IfOk result (λ p. p ≡ spec.extended token.now members height) }
 {
-    Part {
-        tree: Ast {
-            node: Node::Extension(members),
+    let node = Node::Extension(members);
+    let tree = Boxed::new(
+        alloc,
+        Ast {
+            node,
             place: token.start,
         },
+    )?;
+    Ok(Part {
+        tree,
         level: level::PRIM,
         loose: false,
         height: height + 1,
-    }
+    })
 }
 
 /// The word `partition`, which is the token, with its members, the highest of which has this height.
-pub(crate) fn partitioned(token: &Token, members: Items<Ast>, height: u32) -> Part
+pub(crate) fn partitioned(
+    alloc: Global,
+    token: &Token,
+    members: Items<Ast>,
+    height: u32,
+) -> Result<Part, AllocError>
     requires { height + 1 < 2 ^ 32 }
-    ensures { result ≡ spec.partitioned token.now members height }
+    ensures { IfOk result (λ p. p ≡ spec.partitioned token.now members height) }
 {
-    Part {
-        tree: Ast {
-            node: Node::Partition(members),
+    let node = Node::Partition(members);
+    let tree = Boxed::new(
+        alloc,
+        Ast {
+            node,
             place: token.start,
         },
+    )?;
+    Ok(Part {
+        tree,
         level: level::LIT,
         loose: false,
         height: height + 1,
-    }
+    })
 }

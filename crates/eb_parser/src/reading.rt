@@ -9,11 +9,12 @@ use super::part::{
     Part, bound_by, bracketed, built, called, comprehended, constant, empty_braces, extended,
     inverted, joined, leaf, partitioned, prefixed, quantified,
 };
-use super::table::{
-    Follow, Start, call_least, call_level, call_takes, closing_sign, group_of, is_pred, level,
-    prefix_level, prefix_takes, right_of, start_of, takes,
+use super::table::{Follow, Start, call_least, closing_sign, start_of};
+use eb_lexer::{Token, TokenKind};
+use eb_signs::{
+    Sign, call_level, call_takes, group_of, is_pred, level, prefix_level, prefix_takes, right_of,
+    takes,
 };
-use eb_lexer::{Sign, Token, TokenKind};
 use eb_syntax::{Ast, Binder, Call, Identifiers, Node, Operator, Prefix, Quantifier};
 use sqlite_items::Items;
 use std::alloc::Global;
@@ -69,27 +70,58 @@ fn primary_by<'a>(
     match &first.kind {
         TokenKind::Word(name) => {
             let name = name.copied(alloc)?;
-            leaf_at(least, leaf(Node::Identifier(name), first.start), rest)
+            leaf_at(
+                least,
+                leaf(alloc, Node::Identifier(name), first.start)?,
+                rest,
+            )
         }
         TokenKind::Primed(name) => {
             let name = name.copied(alloc)?;
-            leaf_at(least, leaf(Node::Primed(name), first.start), rest)
+            leaf_at(least, leaf(alloc, Node::Primed(name), first.start)?, rest)
         }
-        TokenKind::Number(n) => leaf_at(least, leaf(Node::Number(*n), first.start), rest),
+        TokenKind::Number(n) => {
+            leaf_at(least, leaf(alloc, Node::Number(*n), first.start)?, rest)
+        }
         TokenKind::Label(_) => Err(Stop::Fault(Fault::Syntax)),
         TokenKind::Sign(sign) => begun_by(alloc, depth, least, first, rest, start_of(*sign)),
     }
 }
 
-#[tactic(auto, unfolding(crate::specs::steps::Climbing::leaf_at))]
+#[tactic(auto, using(crate::proofs::Equations::leaf_closed))]
 fn leaf_at(least: u32, part: Part, rest: &[Token]) -> Result<(Part, &[Token]), Stop>
     ensures exact { Gives (λ x. (x.0, x.1.now)) result (spec.leaf_at least part rest.now) }
     ensures low { IfOk result (λ x. x.0 ≡ part) }
 {
-    if least <= part.level {
-        Ok((part, rest))
+    closed(least <= part.level, None, part, rest)
+}
+
+/// The tokens behind the sign that is to follow, where that holds which is asked of the formula before it.
+#[tactic(auto, unfolding(crate::specs::steps::Climbing::behind))]
+fn behind(holds: bool, sign: Option<Sign>, tokens: &[Token]) -> Result<&[Token], Stop>
+    ensures { Gives (λ rest. rest.now) result (spec.behind holds sign tokens.now) }
+{
+    if holds {
+        after_closing(sign, tokens)
     } else {
         Err(Stop::Fault(Fault::Syntax))
+    }
+}
+
+/// The formula, where it may stand here and the sign that is to follow it does; and the tokens behind that.
+#[tactic(auto, unfolding(crate::specs::steps::Climbing::closed))]
+fn closed(
+    holds: bool,
+    sign: Option<Sign>,
+    part: Part,
+    tokens: &[Token],
+) -> Result<(Part, &[Token]), Stop>
+    ensures exact { Gives (λ x. (x.0, x.1.now)) result (spec.closed holds sign part tokens.now) }
+    ensures same { IfOk result (λ x. x.0 ≡ part) }
+{
+    match behind(holds, sign, tokens) {
+        Ok(rest) => Ok((part, rest)),
+        Err(e) => Err(e),
     }
 }
 
@@ -107,7 +139,7 @@ fn begun_by<'a>(
     ensures low { IfOk result (λ x. x.0.height ≤ depth) }
 {
     match start {
-        Start::Constant(found) => leaf_at(least, constant(found, first.start), rest),
+        Start::Constant(found) => leaf_at(least, constant(alloc, found, first.start)?, rest),
         Start::Prefix(prefix) => prefix_at(alloc, depth, least, first, prefix, rest),
         Start::Quantifier(quantifier) => {
             quantifier_at(alloc, depth, least, first, quantifier, rest)
@@ -122,7 +154,7 @@ fn begun_by<'a>(
 }
 
 #[cycle(reading)]
-#[tactic(auto, unfolding(crate::specs::steps::Climbing::prefix_at))]
+#[tactic(auto, using(crate::proofs::Equations::prefix_closed))]
 fn prefix_at<'a>(
     alloc: Global,
     depth: u32,
@@ -139,23 +171,18 @@ fn prefix_at<'a>(
         return Err(Stop::Fault(Fault::Syntax));
     }
     let (part, rest) = read(alloc, depth, prefix_level(prefix), rest)?;
-    if !prefix_takes(prefix, part.level) {
-        return Err(Stop::Fault(Fault::Syntax));
-    }
+    let (part, rest) = closed(prefix_takes(prefix, part.level), None, part, rest)?;
     Ok((prefixed(alloc, first, prefix, part)?, rest))
 }
 
 #[cycle(reading)]
-#[tactic(auto, unfolding(crate::specs::steps::Climbing::predicate))]
+#[tactic(auto, using(crate::proofs::Equations::predicate_closed))]
 fn predicate(alloc: Global, depth: u32, tokens: &[Token]) -> Result<(Part, &[Token]), Stop>
     ensures exact { Gives (λ x. (x.0, x.1.now)) result (spec.predicate (spec.read depth) tokens.now) }
     ensures low { IfOk result (λ x. x.0.height < depth) }
 {
     let (part, rest) = read(alloc, depth, level::PRED, tokens)?;
-    if !is_pred(part.level) {
-        return Err(Stop::Fault(Fault::Syntax));
-    }
-    Ok((part, rest))
+    closed(is_pred(part.level), None, part, rest)
 }
 
 #[cycle(reading)]
@@ -181,7 +208,7 @@ fn quantifier_at<'a>(
 }
 
 #[cycle(reading)]
-#[tactic(auto, unfolding(crate::specs::steps::Climbing::call_at))]
+#[tactic(auto, using(crate::proofs::Equations::call_closed))]
 fn call_at<'a>(
     alloc: Global,
     depth: u32,
@@ -199,16 +226,14 @@ fn call_at<'a>(
     }
     let rest = after_sign(Sign::LeftParenthesis, rest)?;
     let (part, rest) = read(alloc, depth, call_least(call), rest)?;
-    if !call_takes(call, part.level) {
-        return Err(Stop::Fault(Fault::Syntax));
-    }
-    let rest = after_sign(Sign::RightParenthesis, rest)?;
+    let holds = call_takes(call, part.level);
+    let (part, rest) = closed(holds, Some(Sign::RightParenthesis), part, rest)?;
     Ok((called(alloc, first, call, part)?, rest))
 }
 
 /// A formula of either kind in parentheses: its kind says which production it is.
 #[cycle(reading)]
-#[tactic(auto, unfolding(crate::specs::steps::Climbing::parentheses_at))]
+#[tactic(auto, using(crate::proofs::Equations::parentheses_closed))]
 fn parentheses_at<'a>(
     alloc: Global,
     depth: u32,
@@ -221,12 +246,8 @@ fn parentheses_at<'a>(
     ensures low { IfOk result (λ x. x.0.height ≤ depth) }
 {
     let (part, rest) = read(alloc, depth, level::PRED, rest)?;
-    let rest = after_sign(Sign::RightParenthesis, rest)?;
-    let part = bracketed(alloc, first, part)?;
-    if least > part.level {
-        return Err(Stop::Fault(Fault::Syntax));
-    }
-    Ok((part, rest))
+    let (part, rest) = closed(true, Some(Sign::RightParenthesis), part, rest)?;
+    leaf_at(least, bracketed(alloc, first, part)?, rest)
 }
 
 /// Behind the first of some expressions, the others, each behind a comma: all of them, and the greatest height.
@@ -243,7 +264,7 @@ fn row(
 {
     let mut height = first.height;
     let mut members = Items::new(alloc);
-    members.push(first.tree)?;
+    members.push(first.tree.into_inner())?;
     let mut rest = tokens;
     for _ in 0..tokens.len() {
         if !begins(Sign::Comma, rest) {
@@ -251,7 +272,7 @@ fn row(
         }
         let (part, after) = read(alloc, depth, level::EXPR, after_first(rest))?;
         height = height.max(part.height);
-        members.push(part.tree)?;
+        members.push(part.tree.into_inner())?;
         rest = after;
     }
     if begins(Sign::Comma, rest) {
@@ -261,7 +282,7 @@ fn row(
 }
 
 #[cycle(reading)]
-#[tactic(auto, unfolding(crate::specs::steps::Climbing::partition_at))]
+#[tactic(auto, using(crate::proofs::Equations::partition_closed))]
 fn partition_at<'a>(
     alloc: Global,
     depth: u32,
@@ -279,19 +300,19 @@ fn partition_at<'a>(
     let rest = after_sign(Sign::LeftParenthesis, rest)?;
     let (part, rest) = read(alloc, depth, level::EXPR, rest)?;
     let (members, height, rest) = row(alloc, depth, part, rest)?;
-    let rest = after_sign(Sign::RightParenthesis, rest)?;
-    Ok((partitioned(first, members, height), rest))
+    let part = partitioned(alloc, first, members, height)?;
+    closed(true, Some(Sign::RightParenthesis), part, rest)
 }
 
 /// A predicate, a bar and an expression.
 #[cycle(reading)]
-#[tactic(auto, unfolding(crate::specs::steps::Climbing::body))]
+#[tactic(auto, using(crate::proofs::Equations::body_closed))]
 fn body(alloc: Global, depth: u32, tokens: &[Token]) -> Result<(Part, Part, &[Token]), Stop>
     ensures exact { Gives (λ x. (x.0, x.1, x.2.now)) result (spec.body (spec.read depth) tokens.now) }
     ensures low { IfOk result (λ x. (x.0.height < depth) × (x.1.height < depth)) }
 {
     let (condition, rest) = predicate(alloc, depth, tokens)?;
-    let rest = after_sign(Sign::Bar, rest)?;
+    let (condition, rest) = closed(true, Some(Sign::Bar), condition, rest)?;
     let (value, after) = read(alloc, depth, level::EXPR, rest)?;
     Ok((condition, value, after))
 }
@@ -321,7 +342,7 @@ fn binder_at<'a>(
 
 /// Behind the names and the dot in braces.
 #[cycle(reading)]
-#[tactic(auto, unfolding(crate::specs::steps::Climbing::comprehension_at))]
+#[tactic(auto, using(crate::proofs::Equations::comprehension_closed))]
 fn comprehension_at<'a>(
     alloc: Global,
     depth: u32,
@@ -334,14 +355,13 @@ fn comprehension_at<'a>(
     ensures low { IfOk result (λ x. x.0.height ≤ depth) }
 {
     let (condition, value, rest) = body(alloc, depth, rest)?;
-    let rest = after_sign(Sign::RightBrace, rest)?;
     let part = comprehended(alloc, first, names, condition, value)?;
-    Ok((part, rest))
+    closed(true, Some(Sign::RightBrace), part, rest)
 }
 
 /// Behind the expression and the bar in braces.
 #[cycle(reading)]
-#[tactic(auto, unfolding(crate::specs::steps::Climbing::builder_at))]
+#[tactic(auto, using(crate::proofs::Equations::builder_closed))]
 fn builder_at<'a>(
     alloc: Global,
     depth: u32,
@@ -355,13 +375,13 @@ fn builder_at<'a>(
     ensures low { IfOk result (λ x. x.0.height ≤ depth) }
 {
     let (condition, rest) = predicate(alloc, depth, rest)?;
-    let rest = after_sign(Sign::RightBrace, rest)?;
-    Ok((built(alloc, first, value, condition)?, rest))
+    let part = built(alloc, first, value, condition)?;
+    closed(true, Some(Sign::RightBrace), part, rest)
 }
 
 /// Behind the first expression in braces.
 #[cycle(reading)]
-#[tactic(auto, unfolding(crate::specs::steps::Climbing::extension_at))]
+#[tactic(auto, using(crate::proofs::Equations::extension_closed))]
 fn extension_at<'a>(
     alloc: Global,
     depth: u32,
@@ -375,8 +395,8 @@ fn extension_at<'a>(
     ensures low { IfOk result (λ x. x.0.height ≤ depth) }
 {
     let (members, height, rest) = row(alloc, depth, value, rest)?;
-    let rest = after_sign(Sign::RightBrace, rest)?;
-    Ok((extended(first, members, height), rest))
+    let part = extended(alloc, first, members, height)?;
+    closed(true, Some(Sign::RightBrace), part, rest)
 }
 
 #[cycle(reading)]
@@ -421,7 +441,7 @@ fn brace_at<'a>(
         Err(Stop::Memory) => Err(Stop::Memory),
         Err(Stop::Fault(_)) => {
             if begins(Sign::RightBrace, rest) {
-                return Ok((empty_braces(alloc, first), after_first(rest)));
+                return Ok((empty_braces(alloc, first)?, after_first(rest)));
             }
             members_at(alloc, depth, first, rest)
         }
@@ -430,7 +450,7 @@ fn brace_at<'a>(
 
 /// The second part of an operator, and the tokens behind the bracket that closes.
 #[cycle(reading)]
-#[tactic(auto, unfolding(crate::specs::steps::Climbing::operand_at))]
+#[tactic(auto, using(crate::proofs::Equations::operand_closed))]
 fn operand_at(
     alloc: Global,
     depth: u32,
@@ -442,11 +462,7 @@ fn operand_at(
 {
     let group = group_of(operator);
     let (part, rest) = read(alloc, depth, right_of(group), tokens)?;
-    if !takes(group, part.level) {
-        return Err(Stop::Fault(Fault::Syntax));
-    }
-    let rest = after_closing(closing_sign(operator), rest)?;
-    Ok((part, rest))
+    closed(takes(group, part.level), closing_sign(operator), part, rest)
 }
 
 /// The formula with what goes on with it, and the tokens behind that; or the formula alone, where no operand can be read.

@@ -23,9 +23,12 @@ pub type Groups<'a> = BTreeMap<&'a str, Vec<usize>>;
 /// in which they were reached. What the contexts of the names in front of `done` extend is reached too.
 #[derive(Drop)]
 pub struct Walk<'a> {
-    pub(crate) names: NameSet<'a>,
-    pub(crate) queue: Vec<&'a str>,
-    pub(crate) done: usize,
+    /// The names that are reached.
+    pub names: NameSet<'a>,
+    /// The same in the order in which they were reached.
+    pub queue: Vec<&'a str>,
+    /// How many of them were gone on from.
+    pub done: usize,
 }
 
 fn push_head<'a>(

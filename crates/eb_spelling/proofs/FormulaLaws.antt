@@ -3,9 +3,9 @@ use Rattle.std.proofs.Common.{◌≡◌, ◌∙◌, ◌≤◌, ◌<◌, ◌-◌,
 use Rattle.std.specs.Prelude.{Some, Ok, Err, Result, IfOk}
 use Rattle.std.proofs.Math.Seq.{take-length}
 use Rattle.std.proofs.lemmas.List.{length-take-le}
-use Rattle.eb_lexer.specs.declared.token.Sign.{Sign}
+use Rattle.eb_signs.specs.declared.sign.Sign.{Sign}
 use Rattle.eb_lexer.specs.declared.token.Token.{Token}
-use Rattle.eb_lexer.specs.Signs.{sign_of, sign_text}
+use Rattle.eb_signs.specs.Signs.{sign_of, sign_text}
 use Rattle.eb_lexer.specs.Tokens.{IsTokens}
 use Rattle.eb_syntax.specs.declared.ast.Ast.{Ast}
 use Rattle.eb_parser.specs.declared.formulas.FormulaKind.{FormulaKind}

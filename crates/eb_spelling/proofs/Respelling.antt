@@ -13,11 +13,11 @@ use Rattle.std.proofs.lemmas.List.Folds.{list_all-append}
 use Rattle.std.proofs.lemmas.Slice.Eq.{bytes_eq-Decides}
 use Rattle.std.proofs.lemmas.Bool.Decides.{nat_tests}
 use Rattle.unicode_ident.proofs.Computing.{unicode_ident}
-use Rattle.eb_lexer.specs.declared.token.Sign.{Sign}
+use Rattle.eb_signs.specs.declared.sign.Sign.{Sign}
 use Rattle.eb_lexer.specs.declared.token.Token.{Token}
 use Rattle.eb_lexer.specs.declared.token.TokenKind.{TokenKind}
 use Rattle.eb_lexer.specs.declared.token.TokenKind.TheVariants as kind
-use Rattle.eb_lexer.specs.Signs.{signs, sign_of, spelled_among, same_sign, first_of, first_spelling, sign_text}
+use Rattle.eb_signs.specs.Signs.{signs, sign_of, spelled_among, same_sign, first_of, first_spelling, sign_text}
 use Rattle.eb_lexer.specs.Tokens.{starts_word, continues_word, continues_label, is_digit, number_on, is_identifier, is_label_text, is_number, Spells, IsLexeme, begins_comment, begins_gap, Piece, blank, line, block, token, written, IsToken, Begins, size, tokens_at, IsTokens}
 use Rattle.eb_spelling.specs.Spelling.{kind_text, text_of}
 use Rattle.eb_spelling.proofs.SpellingLaws.{kinds}

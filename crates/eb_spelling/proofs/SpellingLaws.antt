@@ -1,8 +1,8 @@
 -- The tokens of a formula are those that it was read from, and tokens of the same kinds read as the same formula but for its places.
 use Rattle.std.proofs.Common.{◌≡◌, ◌∙◌, ◌+◌, ℕ, ℤ, max, Bool, List, [], ◌∷◌, ◌++◌, map, cond, refl, sym, ap, subst, rules, arith, IsTrue, append-nil}
 use Rattle.std.specs.Prelude.{Option, Some, None}
-use Rattle.eb_lexer.specs.declared.token.Sign.{Sign}
-use Rattle.eb_lexer.specs.declared.token.Sign.TheVariants as s
+use Rattle.eb_signs.specs.declared.sign.Sign.{Sign}
+use Rattle.eb_signs.specs.declared.sign.Sign.TheVariants as s
 use Rattle.eb_lexer.specs.declared.token.Token.{Token}
 use Rattle.eb_lexer.specs.declared.token.TokenKind.{TokenKind}
 use Rattle.eb_lexer.specs.declared.token.TokenKind.TheVariants as kind
@@ -21,11 +21,11 @@ use Rattle.eb_syntax.specs.declared.ast.Identifier.{Identifier}
 use Rattle.eb_syntax.specs.declared.ast.Node.TheVariants as node
 use Rattle.eb_syntax.specs.Asts as tree
 use Rattle.eb_parser.specs.declared.part.Part.{Part}
-use Rattle.eb_parser.specs.declared.table.Group.TheVariants as g
-use Rattle.eb_parser.specs.Levels as level
-use Rattle.eb_parser.specs.Levels.{is_pred, is_expr}
+use Rattle.eb_signs.specs.declared.levels.Group.TheVariants as g
+use Rattle.eb_signs.specs.Levels as level
+use Rattle.eb_signs.specs.Levels.{is_pred, is_expr, group_of, admits, takes, constant_level, prefix_takes, call_takes}
 use Rattle.eb_parser.specs.Signs.{constant_sign, prefix_sign, call_sign, quantifier_sign, binder_sign, operator_sign, closing_sign}
-use Rattle.eb_parser.specs.Grammar.{Derives, Exprs, Names, n_last, n_more, Pattern, p_atom, p_maplet, Atom, a_identifier, a_parentheses, Binding, b_pattern, b_union, b_intersection, d_number, d_identifier, d_primed, d_constant, d_prefix, d_quantifier, d_call, d_partition, d_parentheses, d_binder, d_empty, d_extension, d_comprehension, d_builder, d_inverse, d_operator, e_last, e_more, Closes, group_of, admits, takes, constant_level, prefix_takes, call_takes, leaf, prefixed, called, bracketed, inverted, joined, quantified, bound_by, comprehended, built, empty_braces, extended, partitioned, bound_at}
+use Rattle.eb_parser.specs.Grammar.{Derives, Exprs, Names, n_last, n_more, Pattern, p_atom, p_maplet, Atom, a_identifier, a_parentheses, Binding, b_pattern, b_union, b_intersection, d_number, d_identifier, d_primed, d_constant, d_prefix, d_quantifier, d_call, d_partition, d_parentheses, d_binder, d_empty, d_extension, d_comprehension, d_builder, d_inverse, d_operator, e_last, e_more, Closes, leaf, prefixed, called, bracketed, inverted, joined, quantified, bound_by, comprehended, built, empty_braces, extended, partitioned, bound_at}
 use Rattle.eb_spelling.specs.Spelling.{sign, name_kinds, mark_kind, bound_kinds, row_kinds, closing_kinds, kinds_of, unplaced_name, unplaced_mark, unplaced_bound, unplaced}
 
 abbrev pub kinds : List Token → List TokenKind

@@ -1,7 +1,7 @@
 ghost use Rattle.std.specs.Prelude.{◌≡◌};
 ghost use Rattle.eb_parser.specs.Signs as signs;
 
-use eb_lexer::Sign;
+use eb_signs::Sign;
 use eb_syntax::{Binder, Call, Constant, Operator, Prefix, Quantifier};
 
 /// The sign of a constant.

@@ -4,15 +4,16 @@ ghost use Rattle.eb_lexer.specs.Tokens.{IsTokens};
 ghost use Rattle.eb_parser.specs.declared.formulas.FormulaKind.{FormulaKind};
 ghost use Rattle.eb_parser.specs.Formulas.{Stands};
 ghost use Rattle.eb_lexer.specs.declared.token.TokenKind.TheVariants as kind;
-ghost use Rattle.eb_lexer.specs.declared.token.Sign.TheVariants as signs;
+ghost use Rattle.eb_signs.specs.declared.sign.Sign.TheVariants as signs;
 ghost use Rattle.eb_spelling.specs.Spelling as spec;
 
 use super::signs::{
     binder_sign, call_sign, constant_sign, operator_sign, prefix_sign, quantifier_sign,
 };
-use eb_lexer::{Sign, TokenKind, a_sign_is_spelled_by_its_text};
+use eb_lexer::TokenKind;
 use eb_names::{Bytes, Name};
 use eb_parser::closing_sign;
+use eb_signs::{Sign, a_sign_is_spelled_by_its_text};
 use eb_syntax::{Ast, Bound, Identifier, Mark, Node};
 use itoa::Buffer;
 use sqlite_items::Items;

@@ -4,8 +4,8 @@ use Rattle.std.proofs.Common.{◌≡◌, ◌∙◌, ◌<◌, ◌≤◌, ◌==◌
 use Rattle.std.specs.Prelude.{Result, Ok, Err}
 use Rattle.std.proofs.lemmas.Bool.{cases_lt}
 use Rattle.std.proofs.lemmas.Bool.Decides.{nat_tests}
-use Rattle.eb_lexer.specs.declared.token.Sign.{Sign}
-use Rattle.eb_lexer.specs.declared.token.Sign.TheVariants as s
+use Rattle.eb_signs.specs.declared.sign.Sign.{Sign}
+use Rattle.eb_signs.specs.declared.sign.Sign.TheVariants as s
 use Rattle.eb_lexer.specs.declared.token.Token.{Token}
 use Rattle.eb_lexer.specs.declared.token.TokenKind.{TokenKind}
 use Rattle.eb_lexer.specs.declared.token.TokenKind.TheVariants as kind
@@ -23,7 +23,7 @@ use Rattle.eb_parser.specs.Fronts.{Front}
 use Rattle.eb_parser.specs.steps.Finding.{formula_at, FrontLaws}
 use Rattle.eb_units.specs.Grammar.{Next, Named, Each, NextName, Names, NamesBehind, Labelled, NextExpr, Exprs, Assigns, Acts, next, present, absent, none, more, next_name, names, names_behind, no_names, marked, unmarked, labelled, next_expr, exprs, becomes_equal, becomes_equal_at, becomes_member, becomes_such, acts}
 use Rattle.eb_units.specs.steps.Descending.{◌>>=◌, is_label, Read, heads, after_first, at_sign, at_label, place_at, sign_at, skip, name_at, label_at, many, with_front, next_name_at, goes_on, more_names, names_at, names_behind_at, labelled_at, opens_labelled, all_labelled, next_expr_at, more_exprs, exprs_at, as_many, equal_at, such_at, assigned_at, applied_at, member_at, several_at, assigns_at, assignment_at, action_at, all_actions}
-use Rattle.eb_lexer.specs.Signs.{same_sign}
+use Rattle.eb_signs.specs.Signs.{same_sign}
 use Rattle.eb_units.proofs.Heads.{bind_is, by_flag, taken, left, next_heads, labels_heads, named_sign, named_name, labels_sign, labels_label, next_sign, next_name_not, next_label_not, here, next_after, sign_read, name_read, label_read, skip_read, mark_read, sign_sound, next_less, named_less, labels_less, perhaps_less}
 use Rattle.eb_units.proofs.Ends.{ends, quits, stops, no_more, quits_ends, stops_quits, quits_comma, stops_shut, stops_label, each_name_not, Less, next_name_less, names_less, labelled_less, next_expr_less, acts_less}
 use Rattle.eb_units.proofs.Loops.{many_open, many_shut}

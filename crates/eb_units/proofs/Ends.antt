@@ -2,9 +2,9 @@
 use Rattle.std.proofs.Common.{◌≡◌, ◌∙◌, ◌<◌, ◌≤◌, inl, inr, ℕ, ℤ, Bool, true, false, not, ◌&&◌, ◌||◌, List, [], ◌∷◌, length, refl, sym, ap, arith}
 use Rattle.std.specs.Prelude.{Option}
 use denote.Enum.Bare.{same_true}
-use Rattle.eb_lexer.specs.contracts.token.Sign.{the_type}
-use Rattle.eb_lexer.specs.declared.token.Sign.{Sign}
-use Rattle.eb_lexer.specs.declared.token.Sign.TheVariants as s
+use Rattle.eb_signs.specs.contracts.sign.Sign.{the_type}
+use Rattle.eb_signs.specs.declared.sign.Sign.{Sign}
+use Rattle.eb_signs.specs.declared.sign.Sign.TheVariants as s
 use Rattle.eb_lexer.specs.declared.token.Token.{Token}
 use Rattle.eb_lexer.specs.declared.token.TokenKind.{TokenKind}
 use Rattle.eb_lexer.specs.declared.token.TokenKind.TheVariants as kind
@@ -31,7 +31,8 @@ use Rattle.eb_parser.specs.Formulas.{is_unit_word, Continues}
 use Rattle.eb_parser.specs.steps.Finding.{FrontLaws}
 use Rattle.eb_units.specs.Grammar.{Next, Each, NextName, Names, NamesBehind, Labelled, NextExpr, Exprs, Assigns, Acts, ContextPart, IsContext, Converges, NamesPart, PredicatesPart, Inherits, Parameters, Guards, Witnesses, Does, IsEvent, Variant, MachinePart, Refines, IsMachine, Bounds, Sets, IsScope, NextEvent, Sequence, IsGoal, IsQuery, IsQueries, IsUnit, present, absent, none, more, next_name, names, names_behind, no_names, labelled, next_expr, exprs, becomes_equal, becomes_equal_at, becomes_member, becomes_such, acts, sets, constants, axioms, context, ordinary, convergent, anticipated, unsaid, names_part, predicates_part, refines, extends, inherits_nothing, any, no_parameters, where_part, when_part, no_guards, with_part, no_witnesses, then_part, begin_part, does_nothing, event, labelled_variant, bare_variant, variables, invariants, variant, events, refined, unrefined, machine, positive, negative, integers, size, depth, scope, next_event, empty, sequence, take_event, false_guard, ask_axioms, ask_enabled, ask_invariant, ask_deadlock, ask_sequence, ask_wd, ask_theorem, ask_goal, block, unit_context, unit_machine, unit_scope, unit_queries}
 use Rattle.eb_units.specs.steps.Descending.{heads, is_name, is_label, at_sign, at_name, at_label, goes_on, opens_labelled}
-use Rattle.eb_lexer.specs.Signs.{same_sign, is_kind}
+use Rattle.eb_signs.specs.Signs.{same_sign}
+use Rattle.eb_lexer.specs.Tokens.{is_kind}
 use Rattle.eb_units.proofs.Heads.{by_flag, next_heads, next_sign, named_sign, next_less, keyword_less, named_less, labels_less, numbered_less, perhaps_less, marked_less}
 
 -- a label, a word of units, `,` or `)`: no formula goes on with it

@@ -4,9 +4,9 @@ use Rattle.std.specs.Prelude.{Result, Ok, Err, int_le}
 use Rattle.std.specs.Str.{bytes_eq}
 use Rattle.std.proofs.lemmas.Slice.Eq.{bytes_eq-Decides}
 use denote.Enum.Bare.{same_true, true_same}
-use Rattle.eb_lexer.specs.contracts.token.Sign.{the_type}
-use Rattle.eb_lexer.specs.declared.token.Sign.{Sign}
-use Rattle.eb_lexer.specs.declared.token.Sign.TheVariants as s
+use Rattle.eb_signs.specs.contracts.sign.Sign.{the_type}
+use Rattle.eb_signs.specs.declared.sign.Sign.{Sign}
+use Rattle.eb_signs.specs.declared.sign.Sign.TheVariants as s
 use Rattle.eb_lexer.specs.declared.token.Token.{Token}
 use Rattle.eb_lexer.specs.declared.token.TokenKind.{TokenKind}
 use Rattle.eb_lexer.specs.declared.token.TokenKind.TheVariants as kind
@@ -16,7 +16,8 @@ use Rattle.eb_parser.specs.declared.fault.Fault.{Fault}
 use Rattle.eb_parser.specs.declared.fault.Fault.TheVariants.{Syntax}
 use Rattle.eb_units.specs.Grammar.{Next, next, Perhaps, present, absent, Keyword, keyword, Named, named, Labels, labels, Numbered, numbered, Marked, marked, unmarked}
 use Rattle.eb_units.specs.steps.Descending.{◌>>=◌, heads, after_first, is_word, is_name, is_label, at_sign, at_word, at_name, at_label, place_at, sign_at, word_at, skip, name_of, name_at, label_of, label_at, number_of, number_at}
-use Rattle.eb_lexer.specs.Signs.{same_sign, is_kind}
+use Rattle.eb_signs.specs.Signs.{same_sign}
+use Rattle.eb_lexer.specs.Tokens.{is_kind}
 
 -- ---- steps that may fail
 

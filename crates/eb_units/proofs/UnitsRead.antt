@@ -2,8 +2,8 @@
 use Rattle.std.proofs.Common.{◌≡◌, ◌∙◌, ◌<◌, ◌≤◌, ℕ, suc, ℤ, max, Bool, true, false, cond, ◌||◌, List, [], ◌∷◌, length, refl, sym, ap, subst, arith}
 use Rattle.std.specs.Prelude.{Ok, Option, Some, codes}
 use Rattle.std.specs.Str.{bytes_eq}
-use Rattle.eb_lexer.specs.declared.token.Sign.{Sign}
-use Rattle.eb_lexer.specs.declared.token.Sign.TheVariants as s
+use Rattle.eb_signs.specs.declared.sign.Sign.{Sign}
+use Rattle.eb_signs.specs.declared.sign.Sign.TheVariants as s
 use Rattle.eb_lexer.specs.declared.token.Token.{Token}
 use Rattle.eb_syntax.specs.declared.ast.Ast.{Ast}
 use Rattle.eb_syntax.specs.declared.ast.Identifier.{Identifier}
@@ -30,7 +30,7 @@ use Rattle.eb_parser.specs.declared.formulas.FormulaKind.TheVariants as formula
 use Rattle.eb_parser.specs.steps.Finding.{formula_at}
 use Rattle.eb_units.specs.Grammar.{Next, Keyword, Named, Labels, Each, ContextPart, IsContext, Converges, NamesPart, PredicatesPart, Inherits, Parameters, Guards, Witnesses, Does, IsEvent, Variant, MachinePart, Refines, IsMachine, Bounds, Sets, IsScope, NextEvent, Sequence, IsGoal, IsQuery, IsQueries, IsUnit, keyword, none, more, sets, constants, axioms, context, ordinary, convergent, anticipated, unsaid, names_part, predicates_part, refines, extends, inherits_nothing, any, no_parameters, where_part, when_part, no_guards, with_part, no_witnesses, then_part, begin_part, does_nothing, event, labelled_variant, bare_variant, variables, invariants, variant, events, refined, unrefined, machine, positive, negative, integers, size, depth, scope, next_event, empty, sequence, take_event, false_guard, ask_axioms, ask_enabled, ask_invariant, ask_deadlock, ask_sequence, ask_wd, ask_theorem, ask_goal, block, unit_context, unit_machine, unit_scope, unit_queries}
 use Rattle.eb_units.specs.steps.Descending.{heads, after_first, at_sign, at_word, at_name, at_label, place_at, sign_at, word_at, name_at, label_at, number_at, with_front, goes_on, names_at, names_behind_at, all_labelled, all_actions, sets_at, constants_at, axioms_at, context_part_at, opens_context_part, all_context_parts, context_at, convergence_at, behind_convergence, names_part_at, predicates_part_at, refines_at, extends_at, inherits_at, parameters_at, part_behind_at, guards_at, does_at, event_head_at, event_body_at, event_at, opens_event, all_events, variables_at, invariants_at, labelled_variant_at, variant_at, events_at, machine_part_at, opens_machine_part, all_machine_parts, refinement_at, machine_at, bound_at, integers_at, size_at, depth_at, setting_at, all_settings, scope_at, event_name_at, next_event_at, more_events, some_events_at, sequence_at, take_at, false_at, goal_at, target_at, ask_enabled_at, ask_invariant_at, ask_sequence_at, ask_wd_at, ask_theorem_at, ask_goal_at, name_query_at, word_query_at, query_at, opens_query, all_queries, queries_at, scope_or_queries_at, unit_at, is_token, text_at}
-use Rattle.eb_lexer.specs.Signs.{same_sign}
+use Rattle.eb_signs.specs.Signs.{same_sign}
 use Rattle.eb_units.proofs.Heads.{bind_is, taken, left, named_sign, labels_label, numbered_sign, next_sign, next_name_not, next_word_not, keyword_sign, keyword_name, keyword_word, here, word_here, next_after, next_place, keyword_after, sign_read, word_read, name_read, label_read, number_read, next_less, keyword_less, named_less}
 use Rattle.eb_units.proofs.Ends.{stops, stops_ends, stops_names, does_not, witnesses_not, guards_not, parameters_not, behind_not, next_stops, does_stops, witnesses_stops, guards_stops, parameters_stops, context_part_stops, event_stops, machine_part_stops, names_behind_less, context_part_less, inherits_less, parameters_less, guards_less, witnesses_less, event_less, machine_part_less, refines_less, sets_less, next_event_less, query_less, unit_less}
 use Rattle.eb_units.proofs.Soundness.{Limit}

@@ -18,8 +18,8 @@
 -- pred and expr are formulas (eb_parser). Each relation says: this stands at the front of the first tokens, with the second
 -- tokens behind it. A height is the greatest of the heights of the formulas in it, 0 where there is none.
 use Rattle.std.specs.Prelude.{◌≡◌, ℕ, ℤ, pos, ◌-ℤ◌, int_le, max, Bool, true, false, List, [], ◌∷◌, length, codes, Option, Some, None}
-use Rattle.eb_lexer.specs.declared.token.Sign.{Sign}
-use Rattle.eb_lexer.specs.declared.token.Sign.TheVariants as s
+use Rattle.eb_signs.specs.declared.sign.Sign.{Sign}
+use Rattle.eb_signs.specs.declared.sign.Sign.TheVariants as s
 use Rattle.eb_lexer.specs.declared.token.Token.{Token}
 use Rattle.eb_lexer.specs.declared.token.TokenKind.TheVariants as kind
 use Rattle.eb_syntax.specs.declared.ast.Ast.{Ast}

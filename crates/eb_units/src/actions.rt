@@ -9,10 +9,11 @@ use super::front::{
 };
 use super::lists::exprs_at;
 use super::many::{Listed, more};
-use eb_lexer::{Sign, Tokens};
+use eb_lexer::Tokens;
 use eb_parser::{FormulaKind, ParseFault};
+use eb_signs::Sign;
 use eb_syntax::{Action, Assignment, Ast, Identifier, Identifiers};
-use sqlite_items::Items;
+use sqlite_items::{Boxed, Items};
 use std::alloc::Global;
 
 /// As many expressions as names.
@@ -95,10 +96,12 @@ fn applied_at(
     ensures placed { IfErr result (IsPlaced tokens.now) }
 {
     let (argument, rest) = formula_at(alloc, tokens, FormulaKind::Expr, at)?;
+    let argument = Boxed::new(alloc, argument)?;
     let (_, rest) = sign_at(tokens, Sign::RightParenthesis, rest)?;
     let (_, rest) = sign_at(tokens, Sign::Becomes, rest)?;
     let (value, rest) = formula_at(alloc, tokens, FormulaKind::Expr, rest)?;
-    Ok((Assignment::BecomesEqualAt(name, argument, value), rest))
+    let assignment = Assignment::BecomesEqualAt(name, argument.into_inner(), value);
+    Ok((assignment, rest))
 }
 
 #[tactic(auto, unfolding(crate::specs::steps::Descending::member_at))]

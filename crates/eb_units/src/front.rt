@@ -9,8 +9,9 @@ ghost use Rattle.eb_parser.specs.steps.Finding.{Finds};
 ghost use Rattle.eb_units.specs.steps.Descending.{IsPlaced};
 ghost use Rattle.eb_units.specs.steps.Descending as spec;
 
-use eb_lexer::{Sign, TokenKind, Tokens};
+use eb_lexer::{TokenKind, Tokens};
 use eb_parser::{FormulaKind, ParseFault, formula, place_of, tokens_from};
+use eb_signs::Sign;
 use eb_syntax::{Ast, Identifier, Label};
 use std::alloc::Global;
 

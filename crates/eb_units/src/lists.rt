@@ -1,6 +1,6 @@
 //! Names, predicates and expressions, one behind the other.
 ghost use Rattle.std.specs.Prelude.{◌<◌, ◌^◌, length, drop, IfErr};
-ghost use Rattle.eb_lexer.specs.declared.token.Sign.TheVariants as sign;
+ghost use Rattle.eb_signs.specs.declared.sign.Sign.TheVariants as sign;
 ghost use Rattle.eb_parser.specs.steps.Finding.{Finds};
 ghost use Rattle.eb_units.specs.steps.Descending.{IsPlaced};
 ghost use Rattle.eb_units.specs.steps.Descending as spec;
@@ -9,8 +9,9 @@ use super::front::{
     at_label, at_name, at_sign, formula_at, label_at, name_at, next, sign_at, skip,
 };
 use super::many::{Listed, more};
-use eb_lexer::{Sign, Tokens};
+use eb_lexer::Tokens;
 use eb_parser::{FormulaKind, ParseFault};
+use eb_signs::Sign;
 use eb_syntax::{Ast, Identifier, Identifiers, LabelledPredicate};
 use sqlite_items::Items;
 use std::alloc::Global;

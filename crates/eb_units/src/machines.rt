@@ -7,8 +7,9 @@ ghost use Rattle.eb_units.specs.steps.Descending as spec;
 use super::front::{at_label, at_sign, formula_at, label_at, name_at, next, place_at, sign_at};
 use super::lists::{names_at, names_behind_at};
 use super::many::{Listed, many};
-use eb_lexer::{Sign, Tokens};
+use eb_lexer::Tokens;
 use eb_parser::{FormulaKind, ParseFault};
+use eb_signs::Sign;
 use eb_syntax::{Event, LabelledPredicate, Machine, MachineClause, Refinement};
 use std::alloc::Global;
 

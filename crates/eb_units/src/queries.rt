@@ -1,6 +1,6 @@
 //! Queries.
 ghost use Rattle.std.specs.Prelude.{◌<◌, ◌^◌, length, drop, IfErr};
-ghost use Rattle.eb_lexer.specs.declared.token.Sign.TheVariants as sign;
+ghost use Rattle.eb_signs.specs.declared.sign.Sign.TheVariants as sign;
 ghost use Rattle.eb_parser.specs.steps.Finding.{Finds};
 ghost use Rattle.eb_units.specs.steps.Descending.{IsPlaced};
 ghost use Rattle.eb_units.specs.steps.Descending as spec;
@@ -9,9 +9,10 @@ use super::front::{
     at_name, at_sign, at_word, label_at, name_at, next, number_at, sign_at, word_at,
 };
 use super::many::{Listed, many, more};
-use eb_lexer::{Sign, Tokens};
+use eb_lexer::Tokens;
 use eb_names::{Name, Names};
 use eb_parser::ParseFault;
+use eb_signs::Sign;
 use eb_syntax::{Goal, Queries, Query};
 use std::alloc::Global;
 

@@ -6,8 +6,9 @@ ghost use Rattle.eb_units.specs.steps.Descending as spec;
 
 use super::front::{at_name, at_sign, at_word, name_at, next, number_at, sign_at, word_at};
 use super::many::{Listed, many};
-use eb_lexer::{Sign, Tokens};
+use eb_lexer::Tokens;
 use eb_parser::ParseFault;
+use eb_signs::Sign;
 use eb_syntax::{ScopeBlock, ScopeSetting};
 use std::alloc::Global;
 

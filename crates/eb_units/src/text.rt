@@ -12,8 +12,9 @@ use super::machines::machine_at;
 use super::many::{Listed, many};
 use super::queries::queries_at;
 use super::scopes::scope_at;
-use eb_lexer::{Sign, Tokens};
+use eb_lexer::Tokens;
 use eb_parser::{ParseFault, formulas_are_found_at_the_front};
+use eb_signs::Sign;
 use eb_syntax::{EbUnit, Units};
 use std::alloc::Global;
 

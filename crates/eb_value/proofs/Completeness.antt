@@ -36,7 +36,7 @@ pub record IsNarrow (scope : Scope) : Type 0 where
 le_so : (m n : ℤ) → int_le m n ≡ true → m ≤ℤ n
 le_so m n h = grind (arith, ints)
 
-so_le : (m n : ℤ) → m ≤ℤ n → int_le m n ≡ true
+pub so_le : (m n : ℤ) → m ≤ℤ n → int_le m n ≡ true
 so_le m n h = grind (arith, ints)
 
 listed_integer : (scope : Scope) → IsNarrow scope → (v : Value) → Contains (vals scope integer) v → IsOne scope integer v
@@ -168,7 +168,7 @@ rise_some (x ∷ xs) h (y ∷ s) k p = ⊎_elim
     (contains_cases [] (some_of xs) (y ∷ s) (rise_some xs h.1 (y ∷ s) k (part_tail x xs (y ∷ s) p above))))
     (contains_cases x xs y (p y (contains_here y s y refl)))
 
-set_lists : (xs : List Value) → Rises Below xs → (s : List Value) → Contains ([] ∷ some_of xs) s → Rises Below s × Part s xs
+pub set_lists : (xs : List Value) → Rises Below xs → (s : List Value) → Contains ([] ∷ some_of xs) s → Rises Below s × Part s xs
 set_lists xs h s m = ⊎_elim
     (λ e. subst (λ u. Rises Below u × Part u xs) e (tt, λ v n. absurd (contains_none v n)))
     (some_rise xs h s)

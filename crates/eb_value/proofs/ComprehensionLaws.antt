@@ -1,14 +1,15 @@
 -- The comprehensions have the members that the operators are said to have.
-use Rattle.std.proofs.Common.{◌≡◌, ◌≢◌, ◌∙◌, ◌↔◌, ⊎_elim, inl, inr, ◌⊎◌, Bool, true, false, not, ◌&&◌, ◌||◌, if◌then◌else◌, List, [], ◌∷◌, ◌++◌, map, filter, Option, Some, None, IsNone, IfSome, refl, sym, ap, subst, rules}
-use Rattle.std.specs.List.{Contains, list_any, list_all, filter_map, flat_map}
+use Rattle.std.proofs.Common.{◌≡◌, ◌≢◌, ◌∙◌, ◌↔◌, ⊎_elim, inl, inr, ◌⊎◌, Bool, true, false, not, ◌&&◌, ◌||◌, if◌then◌else◌, List, [], ◌∷◌, ◌++◌, map, filter, Option, Some, None, IsNone, IfSome, IsTrue, Result, IfOk, refl, sym, ap, subst, rules}
+use Rattle.std.specs.List.{Contains, list_all, flat_map}
 use Rattle.std.specs.Ordering.{is_eq, is_lt}
-use Rattle.std.specs.Cmp.{second_so}
+use Rattle.std.specs.Cmp.{second_so, both_ways}
 use Rattle.std.specs.declared.cmp.Ordering.{Ordering}
 use Rattle.std.specs.declared.cmp.Ordering.TheVariants.{Less, Equal, Greater}
 use Rattle.std.proofs.lemmas.List.Elements.{Contains-append_cases, Contains-append_left, Contains-append_right}
+use Rattle.std.proofs.lemmas.Result.{IfOk-weaker}
 use Rattle.eb_value.specs.declared.value.Value.{Value, the_lemmas}
 use Rattle.eb_value.specs.declared.value.Form.TheOpen as val
-use Rattle.eb_value.specs.Values.{Layer, layer, rank, rank_of, pair, compare, is_ascending}
+use Rattle.eb_value.specs.Values.{Layer, layer, rank_of, pair, compare}
 use Rattle.eb_value.specs.Sets.{IsSetOf, InUnion, InMeet, InMinus}
 use Rattle.eb_value.specs.Relations as in_relation
 use Rattle.eb_value.specs.Comprehensions as set
@@ -16,7 +17,7 @@ use Rattle.eb_value.specs.Comprehensions.{Maplet}
 use Rattle.eb_value.proofs.OrderLaws.{reflexive, exact, reversed, transitive}
 use Rattle.eb_value.proofs.Induction.{as_pair}
 use Rattle.eb_value.proofs.Members.{contains_none, contains_cases, contains_here, contains_there}
-use Rattle.eb_value.proofs.Ascending.{Rises, Below, first_true as first_so, rises, ascending, same_members, contains_map, map_contains, contains_filter}
+use Rattle.eb_value.proofs.Ascending.{Rises, Below, first_true as first_so, rises, same_members, contains_map, map_contains, contains_filter}
 use Rattle.eb_value.proofs.MergeLaws.{same_set, set_from}
 use Rattle.eb_value.proofs.PairLaws.{same_some, same_pair, contains_filter_map, filter_map_contains, contains_flat_map, flat_map_contains}
 
@@ -59,6 +60,9 @@ contains_has (w ∷ s) v m = ⊎_elim
     (λ e. or_first (set.same v w) (set.has s v) (ap (set.same v) e ∙ is_same v))
     (λ n. or_so (set.same v w) (set.has s v) (contains_has s v n))
     (contains_cases w s v m)
+
+pub has_is : (s : List Value) (v : Value) (b : Bool) → IsTrue b ↔ Contains s v → b ≡ set.has s v
+has_is s v b h = both_ways b (set.has s v) (λ e. contains_has s v (h.0 e)) (λ e. h.1 (has_contains s v e))
 
 not_has : (s : List Value) (v : Value) → (Contains s v → ⊥) → not (set.has s v) ≡ true
 not_has s v n = at (set.has s v) refl where
@@ -125,6 +129,16 @@ made_by P xs h = set_from P (set.set_of xs) (set_of_rises xs) (λ v. (λ m. (h v
 pub one_set : (P : Value → Type 0) (xs ys : List Value) → IsSetOf P xs → IsSetOf P ys → xs ≡ ys
 one_set P xs ys s t = same_members xs ys (rises xs s.ascending) (rises ys t.ascending) (λ v. (λ m. (t.members v).1 ((s.members v).0 m), λ m. (s.members v).1 ((t.members v).0 m)))
 
+-- an answer that has the set of a fact is the list that has it
+pub equals_from : {E : Type 0} (P : Value → Type 0) (r : Result (List Value) E) (ys : List Value) → IsSetOf P ys → IfOk r (IsSetOf P) → IfOk r (λ xs. xs ≡ ys)
+equals_from P r ys t h = IfOk-weaker r _ (λ xs. xs ≡ ys) (λ xs s. one_set P xs ys s t) h
+
+pub set_of_is : (xs : List Value) → IsSetOf (Contains xs) (set.set_of xs)
+set_of_is xs = made_by (Contains xs) xs (λ v. (λ m. m, λ m. m))
+
+pub set_of_rising : (xs : List Value) → Rises Below xs → set.set_of xs ≡ xs
+set_of_rising xs h = one_set (Contains xs) (set.set_of xs) xs (set_of_is xs) (set_from (Contains xs) xs h (λ v. (λ m. m, λ m. m)))
+
 -- ---- sets
 
 pub union_is : (a b : List Value) → IsSetOf (InUnion a b) (set.union a b)
@@ -153,14 +167,14 @@ cross_is a b = made_by (in_relation.InCross a b) (flat_map (λ x. map (pair x) b
 abbrev maplet : Value → Value → Maplet
 maplet x y = record { first = x; second = y }
 
-maplet_in-pair : (x y : Value) → set.maplet_in (layer (pair x y)) ≡ Some (record { first = x; second = y })
+pub maplet_in-pair : (x y : Value) → set.maplet_in (layer (pair x y)) ≡ Some (record { first = x; second = y })
 maplet_in-pair x y = search (rules, the_lemmas)
 
-maplet_in-other : (y : Layer) → rank_of y ≢ 3 → set.maplet_in y ≡ None
+pub maplet_in-other : (y : Layer) → rank_of y ≢ 3 → set.maplet_in y ≡ None
 maplet_in-other (val.Pair a b) h = absurd (h refl)
 maplet_in-other y h = refl
 
-same_maplet : (m n : Maplet) → Some m ≡ Some n → m ≡ n
+pub same_maplet : (m n : Maplet) → Some m ≡ Some n → m ≡ n
 same_maplet m n e = cc
 
 -- a value with a maplet is a pair
@@ -358,6 +372,24 @@ module _ (f : List Value) (x : Value) where
   applied_by : (b : Bool) → set.is_functional f ≡ b → (o : Option Value) → Answers o → o ≡ (if b then set.first_of (set.image f (x ∷ [])) else None)
   applied_by true g o a = front_of (set.image f (x ∷ [])) refl g o a
   applied_by false g o a = none_so o (a.0.1 (inl (ambiguous_so f g)))
+
+-- a relation that is told functional otherwise
+pub functional_by : (f : List Value) (b : Bool) → (b ≡ false → in_relation.IsAmbiguous f) → (b ≡ true → (x y z : Value) → in_relation.Relates f x y → in_relation.Relates f x z → y ≡ z) → b ≡ set.is_functional f
+functional_by f b apart alone = at b refl (set.is_functional f) refl where
+  at : (c : Bool) → b ≡ c → (d : Bool) → set.is_functional f ≡ d → b ≡ set.is_functional f
+  at true e true g = e ∙ sym g
+  at false e false g = e ∙ sym g
+  at true e false g = let a = ambiguous_so f g in absurd (a.5 (alone e a.0 a.1 a.2 a.3 a.4))
+  at false e true g = let a = apart e in absurd (a.5 (one_second f g a.0 a.1 a.2 a.3 a.4))
+
+-- what is applied is related
+applied_at : (f : List Value) (x y : Value) (b : Bool) (ys : List Value) → set.image f (x ∷ []) ≡ ys → (if b then set.first_of ys else None) ≡ Some y → in_relation.Relates f x y
+applied_at f x y true [] e h = cc
+applied_at f x y true (z ∷ zs) e h = subst (in_relation.Relates f x) (same_some z y h) (image_at f x z (subst (λ xs. Contains xs z) (sym e) (contains_here z zs z refl)))
+applied_at f x y false ys e h = cc
+
+pub applied_related : (f : List Value) (x y : Value) → set.apply f x ≡ Some y → in_relation.Relates f x y
+applied_related f x y h = applied_at f x y (set.is_functional f) (set.image f (x ∷ [])) refl h
 
 pub apply_is : (f : List Value) (x : Value) (o : Option Value) → (IsNone o ↔ (in_relation.IsAmbiguous f ⊎ ¬ in_relation.InDomain f x)) → IfSome o (λ y. in_relation.Relates f x y) → o ≡ set.apply f x
 apply_is f x o n s = applied_by f x (set.is_functional f) refl o (n, s)

@@ -10,7 +10,9 @@ use Rattle.eb_value.specs.Relations
 use Rattle.eb_value.specs.steps.Merges
 use Rattle.eb_value.specs.steps.Merges.{first_of, second_of}
 use Rattle.eb_value.specs.steps.Joins
+use Rattle.eb_value.specs.Comprehensions as set
 use Rattle.eb_value.proofs.OrderLaws.{reflexive}
+use Rattle.eb_value.proofs.ComprehensionLaws.{functional_by, apply_is}
 use Rattle.eb_value.proofs.Members.{contains_none, contains_cases, contains_here, contains_there}
 use Rattle.eb_value.proofs.Ascending.{Rises, Below, not_below, rises, first_true}
 use Rattle.eb_value.proofs.MergeLaws.{is_eq-Equal}
@@ -116,6 +118,13 @@ applied_none f x o h e = subst (λ q. IsNone q ↔ (Relations.IsAmbiguous f ⊎ 
 
 pub applied_some : (f : List Value) (x : Value) (o : Option Value) → is_ascending f ≡ true → o ≡ Joins.applied f x → IfSome o (λ y. Relations.Relates f x y)
 applied_some f x o h e = subst (λ q. IfSome q (λ y. Relations.Relates f x y)) (sym e) ((answers f x (rises f h)).1)
+
+-- the two ways to tell whether a relation is functional
+pub functional_is : (f : List Value) → is_ascending f ≡ true → Joins.is_functional f ≡ set.is_functional f
+functional_is f h = functional_by f (Joins.is_functional f) (ambiguous f (rises f h)) (one_second f (rises f h))
+
+pub applied_is : (f : List Value) (x : Value) → is_ascending f ≡ true → Joins.applied f x ≡ set.apply f x
+applied_is f x h = let a = answers f x (rises f h) in apply_is f x (Joins.applied f x) a.0 a.1
 
 -- the same of an optional reference
 pub none_behind : (o : Option (Bor Value)) (P : Type 0) → (IsNone (option_copied o) ↔ P) → (IsNone o ↔ P)

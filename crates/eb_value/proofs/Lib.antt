@@ -20,3 +20,9 @@ pub mod ComprehensionLaws
 pub mod FunctionLaws
 pub mod ReadingSteps
 pub mod ReadingLaws
+mod SameTypeLaws
+mod FamilyLaws
+mod KeepLaws
+mod CanonicalLaws
+mod TypeKeepLaws
+mod LoopLaws

@@ -209,12 +209,16 @@ module _ (names : List (List ℕ)) (scope : Scope) (readable : AreReadable names
       }))
       (λ w k h. let e : false ≡ true = sym (TypingLaws.carrier_other scope place w k) ∙ h in cc)
 
+  opened_read : (t : EbType) (a : Value) → Prints t a → (rest : List ℕ) → Reading.opened_at (Reading.value_at names scope.sizes t) (codes "(" ++ (value_text names a ++ (codes "|->" ++ rest))) ≡ Some (a, rest)
+  opened_read t a p rest = ap (λ o. o >>= (λ x. Reading.after (codes "|->") x.1 >>= (λ b. Some (x.0, b)))) (p.read (codes "|->" ++ rest) refl)
+
+  closed_read : (t : EbType) (a : Value) → Prints t a → (rest : List ℕ) → Reading.closed_at (Reading.value_at names scope.sizes t) (value_text names a ++ (codes ")" ++ rest)) ≡ Some (a, rest)
+  closed_read t a p rest = ap (λ o. o >>= (λ y. Reading.after (codes ")") y.1 >>= (λ c. Some (y.0, c)))) (p.read (codes ")" ++ rest) refl)
+
   pair_read : (t u : EbType) (a b : Value) → Prints t a → Prints u b → (rest : List ℕ) → Reading.pair_at (Reading.value_at names scope.sizes t) (Reading.value_at names scope.sizes u) (codes "(" ++ (value_text names a ++ (codes "|->" ++ (value_text names b ++ (codes ")" ++ rest))))) ≡ Some (pair a b, rest)
   pair_read t u a b p q rest =
-      let f = Reading.value_at names scope.sizes t in
-      let g = Reading.value_at names scope.sizes u in
-      ap (λ o. o >>= (λ x. Reading.after (codes "|->") x.1 >>= (λ b. g b >>= (λ y. Reading.after (codes ")") y.1 >>= (λ c. Some (pair x.0 y.0, c)))))) (p.read (codes "|->" ++ (value_text names b ++ (codes ")" ++ rest))) refl)
-      ∙ ap (λ o. o >>= (λ y. Reading.after (codes ")") y.1 >>= (λ c. Some (pair a y.0, c)))) (q.read (codes ")" ++ rest) refl)
+      ap (λ o. o >>= (λ x. Reading.closed_at (Reading.value_at names scope.sizes u) x.1 >>= (λ y. Some (pair x.0 y.0, y.1)))) (opened_read t a p (value_text names b ++ (codes ")" ++ rest)))
+      ∙ ap (λ o. o >>= (λ y. Some (pair a y.0, y.1))) (closed_read u b q rest)
 
   print-product : (t u : EbType) → AllPrint t → AllPrint u → AllPrint (product t u)
   print-product t u p q = as_pair (λ w. has_type scope w (product t u) ≡ true → Prints (product t u) w)

@@ -1,8 +1,7 @@
 -- What the operators on relations keep and take.
-use Rattle.std.proofs.Common.{◌≡◌, ◌∙◌, ◌↔◌, ⊎_elim, inl, inr, ◌⊎◌, Bool, true, false, ◌||◌, List, [], ◌∷◌, filter, Option, Some, None, IsTrue, refl, sym, ap, subst}
+use Rattle.std.proofs.Common.{◌≡◌, ◌∙◌, ◌↔◌, ⊎_elim, inl, inr, ◌⊎◌, Bool, true, false, List, filter, Option, Some, None, refl, sym, ap, subst}
 use Rattle.std.specs.List.{Contains, filter_map}
-use Rattle.std.specs.Ordering.{is_eq, ordering_then}
-use Rattle.std.specs.Cmp.{both_ways}
+use Rattle.std.specs.Ordering.{ordering_then}
 use Rattle.std.specs.declared.cmp.Ordering.{Ordering}
 use Rattle.std.specs.declared.cmp.Ordering.TheVariants.{Less, Equal, Greater}
 use Rattle.eb_value.specs.declared.value.Value.{Value}
@@ -11,13 +10,14 @@ use Rattle.eb_value.specs.Sets.{IsSetOf, InUnion}
 use Rattle.eb_value.specs.Relations
 use Rattle.eb_value.specs.steps.Merges.{first_of, second_of, kept, key_of}
 use Rattle.eb_value.specs.steps.Joins
+use Rattle.eb_value.specs.Comprehensions.{has}
 use Rattle.eb_value.specs.declared.merges.Key.TheVariants.{First}
 use Rattle.eb_value.specs.declared.relations.Part.TheVariants as part
-use Rattle.eb_value.proofs.OrderLaws.{reflexive, exact, compare-pair}
+use Rattle.eb_value.proofs.OrderLaws.{exact, compare-pair}
+use Rattle.eb_value.proofs.ComprehensionLaws.{has_contains, contains_has}
 use Rattle.eb_value.proofs.Induction.{as_pair}
-use Rattle.eb_value.proofs.Members.{contains_none, contains_cases, contains_here, contains_there}
 use Rattle.eb_value.proofs.Ascending.{Below, rises, rises_filter, contains_filter}
-use Rattle.eb_value.proofs.MergeLaws.{Meets, Upto, kept_set, same_set, set_from, is_eq-Equal, not_true, not_false}
+use Rattle.eb_value.proofs.MergeLaws.{Meets, Upto, kept_set, same_set, set_from, not_true, not_false}
 use Rattle.eb_value.proofs.PairLaws.{first_of-pair, second_of-pair, swap-pair, first_of-other, with_first, with_second, with_swap, same_pair, contains_filter_map, filter_map_contains}
 
 -- ---- by the first
@@ -64,29 +64,11 @@ dom_drop_set s r k h = same_set (λ v. Contains r v × Meets false (first_of v) 
 
 -- ---- by the second
 
-or_so : (s t : Bool) → (s || t) ≡ true → (s ≡ true) ⊎ (t ≡ true)
-or_so true t h = inl refl
-or_so false t h = inr h
-
-so_or : (s t : Bool) → (s ≡ true) ⊎ (t ≡ true) → (s || t) ≡ true
-so_or true t h = refl
-so_or false t h = ⊎_elim (λ e. cc) (λ e. e) h
-
-has_in : (s : List Value) (v : Value) → (Joins.has s v ≡ true) ↔ Contains s v
-has_in [] v = (λ e. cc, λ m. absurd (contains_none v m))
-has_in (x ∷ s) v = (
-  λ e. ⊎_elim (λ f. contains_here x s v (is_eq-Equal v x f)) (λ f. contains_there x s v ((has_in s v).0 f)) (or_so (is_eq (compare x v)) (Joins.has s v) e),
-  λ m. so_or (is_eq (compare x v)) (Joins.has s v) (⊎_elim (λ e. inl (ap is_eq (ap (λ z. compare z v) e ∙ reflexive v))) (λ n. inr ((has_in s v).1 n)) (contains_cases x s v m)),
-)
-
-pub has_is : (s : List Value) (v : Value) (b : Bool) → IsTrue b ↔ Contains s v → b ≡ Joins.has s v
-has_is s v b h = both_ways b (Joins.has s v) (λ e. (has_in s v).1 (h.0 e)) (λ e. h.1 ((has_in s v).0 e))
-
 tests_meet : (keep : Bool) (s : List Value) (o : Option Value) → (Joins.tests keep s o ≡ true) ↔ Meets keep o s
 tests_meet true s None = (λ e. cc, λ m. absurd m)
 tests_meet false s None = (λ e. cc, λ m. absurd m)
-tests_meet true s (Some y) = has_in s y
-tests_meet false s (Some y) = (λ e m. not_false (Joins.has s y) e ((has_in s y).1 m), λ n. not_true (Joins.has s y) (λ e. n ((has_in s y).0 e)))
+tests_meet true s (Some y) = (has_contains s y, contains_has s y)
+tests_meet false s (Some y) = (λ e m. not_false (has s y) e (contains_has s y m), λ n. not_true (has s y) (λ e. n (has_contains s y e)))
 
 second_set : (keep : Bool) (r s : List Value) → is_ascending r ≡ true → IsSetOf (λ v. Contains r v × Meets keep (second_of v) s) (filter (λ v. Joins.tests keep s (second_of v)) r)
 second_set keep r s h = set_from (λ v. Contains r v × Meets keep (second_of v) s) (filter (λ v. Joins.tests keep s (second_of v)) r)

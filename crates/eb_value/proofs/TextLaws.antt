@@ -36,3 +36,23 @@ first_others (y ∷ xs) x h e = rw (take_rest (y ∷ xs) 1) (ap (λ z. z ∷ xs)
 pub members_done : (f : Value → List ℕ) (members others : List Value) (first : Value) (old mid text : List ℕ) (i : ℕ) → members ≡ first ∷ others → mid ≡ old ++ f first → text ≡ mid ++ flat_map (λ v. 44 ∷ f v) (take i others) → length others ≤ i → text ≡ old ++ join_with_byte 44 (map f members)
 members_done f members others first old mid text i e m t l =
     t ∙ ap (λ xs. mid ++ flat_map (λ v. 44 ∷ f v) xs) (take_all i others l) ∙ ap (λ xs. xs ++ flat_map (λ v. 44 ∷ f v) others) m ∙ append_assoc old (f first) (flat_map (λ v. 44 ∷ f v) others) ∙ ap (λ xs. old ++ xs) (sym (joined f first others) ∙ ap (λ xs. join_with_byte 44 (map f xs)) (sym e))
+
+-- a text that is written piece by piece
+pub pair_written : (names : List (List ℕ)) (v a b : Value) (old t u w x y : List ℕ) → v ≡ pair a b → t ≡ old ++ codes "(" → u ≡ t ++ value_text names a → w ≡ u ++ codes "|->" → x ≡ w ++ value_text names b → y ≡ x ++ codes ")" → y ≡ old ++ value_text names v
+pair_written names v a b old t u w x y is e f g h i =
+    let p = value_text names a in
+    let q = value_text names b in
+    i ∙ ap (λ z. z ++ codes ")") (h ∙ ap (λ z. z ++ q) (g ∙ ap (λ z. z ++ codes "|->") (f ∙ ap (λ z. z ++ p) e)))
+    ∙ append_assoc (((old ++ codes "(") ++ p) ++ codes "|->") q (codes ")")
+    ∙ append_assoc ((old ++ codes "(") ++ p) (codes "|->") (q ++ codes ")")
+    ∙ append_assoc (old ++ codes "(") p (codes "|->" ++ (q ++ codes ")"))
+    ∙ append_assoc old (codes "(") (p ++ (codes "|->" ++ (q ++ codes ")")))
+    ∙ ap (λ z. old ++ z) (sym (ap (value_text names) is ∙ value_text-pair names a b))
+
+pub set_written : (names : List (List ℕ)) (v : Value) (xs : List Value) (old t u w : List ℕ) → v ≡ set xs → t ≡ old ++ codes "{" → u ≡ t ++ join_with_byte 44 (map (value_text names) xs) → w ≡ u ++ codes "}" → w ≡ old ++ value_text names v
+set_written names v xs old t u w is e f g =
+    let p = join_with_byte 44 (map (value_text names) xs) in
+    g ∙ ap (λ z. z ++ codes "}") (f ∙ ap (λ z. z ++ p) e)
+    ∙ append_assoc (old ++ codes "{") p (codes "}")
+    ∙ append_assoc old (codes "{") (p ++ codes "}")
+    ∙ ap (λ z. old ++ z) (sym (ap (value_text names) is ∙ value_text-set names xs))

@@ -23,7 +23,7 @@ use Rattle.eb_value.proofs.Ascending.{Rises, Below, rises_append, rises_map, con
 int_below : (m n : ℤ) → m <ℤ n → Below (int m) (int n)
 int_below m n h = compare-int m n ∙ grind (arith, ints)
 
-rises-ints_from : (lo : ℤ) (n : ℕ) → Rises Below (ints_from lo n)
+pub rises-ints_from : (lo : ℤ) (n : ℕ) → Rises Below (ints_from lo n)
 rises-ints_from lo zero = tt
 rises-ints_from lo (suc n) = (
   λ v m. let r = from_up (lo +ℤ pos 1) n v m in subst (Below (int lo)) (sym r.1) (int_below lo r.0 (omega (arith, ints, r.2))),

@@ -1,11 +1,11 @@
 -- The operators on sets and relations as functions of their members: each is a comprehension over the lists (Abrial, "Modeling
 -- in Event-B", 2010; Métayer and Voisin, "The Event-B Mathematical Language", 2009).
-use Rattle.std.specs.Prelude.{ℕ, Bool, true, false, not, if◌then◌else◌, ◌&&◌, ◌||◌, List, [], ◌∷◌, ◌++◌, map, filter, Option, Some, None}
+use Rattle.std.specs.Prelude.{Bool, true, not, if◌then◌else◌, ◌||◌, List, [], ◌∷◌, ◌++◌, map, filter, Option, Some, None}
 use Rattle.std.specs.List.{list_all, list_any, filter_map, flat_map}
 use Rattle.std.specs.Ordering.{is_eq, is_lt}
 use Rattle.eb_value.specs.declared.value.Value.{Value}
 use Rattle.eb_value.specs.declared.value.Form.TheOpen as val
-use Rattle.eb_value.specs.Values.{Layer, layer, compare, pair, set}
+use Rattle.eb_value.specs.Values.{Layer, layer, compare, pair}
 
 -- the two values are one
 abbrev pub same : Value → Value → Bool

@@ -8,5 +8,6 @@ pub mod Texts
 pub mod Sets
 pub mod Relations
 pub mod Comprehensions
+pub mod Canonical
 -- Means of proof, which only private functions cite.
 pub mod steps

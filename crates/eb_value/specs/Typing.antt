@@ -31,6 +31,10 @@ typed_step sizes _ _ = false
 abbrev pub has_type : Scope → Value → EbType → Bool
 has_type scope v t = fold-EbType (Value → Bool) (Value → Bool) (λ s v. typed_step scope.sizes s (layer v)) (λ t. t.shape) t v
 
+-- each of the values is one of the type
+abbrev pub have_type : Scope → List Value → EbType → Bool
+have_type scope vs t = list_all (λ v. has_type scope v t) vs
+
 abbrev pub bounded_step : ℤ → ℤ → Form-F Bool Bool → Bool
 bounded_step lo hi (val.Int n) = int_le lo n && int_le n hi
 bounded_step lo hi (val.Bool b) = true

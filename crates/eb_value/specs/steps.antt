@@ -1,3 +1,5 @@
 pub mod Merges
 pub mod Joins
 pub mod Reading
+pub mod SameTypes
+pub mod Families

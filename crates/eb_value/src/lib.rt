@@ -2,6 +2,8 @@
 #![tactic(auto)]
 
 mod application;
+mod canonical;
+mod families;
 mod laws;
 mod listing;
 mod lists;
@@ -13,18 +15,20 @@ mod relations;
 mod scope;
 mod sets;
 mod text;
+mod typed_results;
 mod types;
 mod typing;
 mod value;
 
-pub use application::apply;
+pub use application::{apply, is_functional};
+pub use canonical::{canonical_values_have_canonical_parts, operators_keep_values_canonical};
+pub use families::{meet_all, union_all};
 pub use laws::{
-    application_is_determined, integers_lie_within_bounds, members_determine_ascending_lists,
-    order_is_total, relations_are_comprehensions, sets_are_comprehensions, values_are_ascending,
-    values_are_complete,
+    integers_lie_within_bounds, members_determine_ascending_lists, order_is_total,
+    values_are_ascending, values_are_complete,
 };
-pub use listing::values;
-pub use lists::{Row, Sizes, Values};
+pub use listing::{integers, values};
+pub use lists::{May, Row, Sizes, Values};
 pub use order::{compare, is_ascending};
 pub use products::{compose, cross, direct, parallel};
 pub use read::{ValueFault, read_value};
@@ -32,8 +36,9 @@ pub use relations::{
     dom_drop, dom_keep, domain, image, inverse, overlay, ran_drop, ran_keep, range,
 };
 pub use scope::Scope;
-pub use sets::{contains, meet, minus, union};
+pub use sets::{contains, meet, minus, set_of, union};
 pub use text::value_text;
-pub use types::{EbType, Shape};
+pub use typed_results::operators_keep_types;
+pub use types::{EbType, Shape, same_type};
 pub use typing::{count, has_type};
-pub use value::{Form, LIMIT, Value};
+pub use value::{Form, LIMIT, Value, parts, values_copied};

@@ -8,8 +8,8 @@ use crate::lists::Values;
 use crate::scope::Scope;
 use crate::types::{EbType, Shape};
 use crate::typing::{count, size_of};
-use crate::value::{Form, Value, values_copied};
-use sqlite_items::{Boxed, Items};
+use crate::value::{Value, push_copy, values_copied};
+use sqlite_items::Items;
 use std::alloc::{AllocError, Global};
 
 /// All values of the type in the scope, ascending. The only error is want of memory.
@@ -37,7 +37,8 @@ pub fn values(alloc: Global, ty: &EbType, scope: &Scope) -> Result<Values, Alloc
     }
 }
 
-fn integers(alloc: Global, lo: i64, hi: i64) -> Result<Values, AllocError>
+/// The integers from one to another, ascending. The only error is want of memory.
+pub fn integers(alloc: Global, lo: i64, hi: i64) -> Result<Values, AllocError>
     ensures { IfOk result (λ all. all ≡ spec.ints_from lo (integers_within lo hi)) }
 {
     let mut all = Values::new(alloc);
@@ -62,12 +63,8 @@ fn truths(alloc: Global) -> Result<Values, AllocError>
     ensures { IfOk result (λ all. all ≡ truth false ∷ truth true ∷ []) }
 {
     let mut all = Values::new(alloc);
-    all.push(Value {
-        form: Form::Bool(false),
-    })?;
-    all.push(Value {
-        form: Form::Bool(true),
-    })?;
+    all.push(Value::truth(false))?;
+    all.push(Value::truth(true))?;
     Ok(all)
 }
 
@@ -76,9 +73,7 @@ fn atoms(alloc: Global, place: u32, size: u32) -> Result<Values, AllocError>
 {
     let mut all = Values::new(alloc);
     for number in 0..size {
-        all.push(Value {
-            form: Form::Atom(place, number + 1),
-        })?;
+        all.push(Value::atom(place, number + 1))?;
     }
     Ok(all)
 }
@@ -87,11 +82,9 @@ fn atoms(alloc: Global, place: u32, size: u32) -> Result<Values, AllocError>
 pub(crate) fn pair_of(alloc: Global, first: &Value, second: &Value) -> Result<Value, AllocError>
     ensures { IfOk result (λ v. v ≡ pair first.now second.now) }
 {
-    let first = Boxed::new(alloc, first.copied(alloc)?)?;
-    let second = Boxed::new(alloc, second.copied(alloc)?)?;
-    Ok(Value {
-        form: Form::Pair(first, second),
-    })
+    let first = first.copied(alloc)?;
+    let second = second.copied(alloc)?;
+    Value::pair(alloc, first, second)
 }
 
 /// All pairs of a value of the one list and a value of the other.
@@ -129,16 +122,21 @@ fn sets(alloc: Global, members: &[Value]) -> Result<Values, AllocError>
     ensures { IfOk result (λ all. all ≡ spec.sets members.now) }
 {
     let mut all = Values::new(alloc);
-    all.push(Value {
-        form: Form::Set(Values::new(alloc)),
-    })?;
+    all.push(Value::set(Values::new(alloc)))?;
     let lists = nonempty(alloc, members)?;
-    for list in lists.as_slice() {
-        all.push(Value {
-            form: Form::Set(values_copied(alloc, list.as_slice())?),
-        })?;
-    }
+    push_sets(alloc, &mut all, lists.as_slice())?;
     Ok(all)
+}
+
+/// Adds the set of each list.
+fn push_sets(alloc: Global, all: &mut Values, lists: &[Values]) -> Result<(), AllocError>
+    ensures { OnOk result (all.new ≡ all.old ++ map set lists.now) }
+{
+    for list in lists {
+        let members = values_copied(alloc, list.as_slice())?;
+        all.push(Value::set(members))?;
+    }
+    Ok(())
 }
 
 /// The lists of members that are not empty.
@@ -149,10 +147,18 @@ fn nonempty(alloc: Global, members: &[Value]) -> Result<Items<Values>, AllocErro
         return Ok(Items::new(alloc));
     };
     let rest = nonempty(alloc, others)?;
+    let mut all = begun(alloc, first, rest.as_slice())?;
+    all.append(rest)?;
+    Ok(all)
+}
+
+/// The list of the first alone, and it before each of the lists.
+fn begun(alloc: Global, first: &Value, rest: &[Values]) -> Result<Items<Values>, AllocError>
+    ensures { IfOk result (λ all. all ≡ map (λ list. first.now ∷ list) ([] ∷ rest.now)) }
+{
     let mut all = Items::new(alloc);
     all.push(one(alloc, first)?)?;
-    push_behind(alloc, &mut all, first, rest.as_slice())?;
-    all.append(rest)?;
+    push_behind(alloc, &mut all, first, rest)?;
     Ok(all)
 }
 
@@ -160,7 +166,7 @@ fn one(alloc: Global, member: &Value) -> Result<Values, AllocError>
     ensures { IfOk result (λ list. list ≡ member.now ∷ []) }
 {
     let mut list = Values::new(alloc);
-    list.push(member.copied(alloc)?)?;
+    push_copy(alloc, &mut list, member)?;
     Ok(list)
 }
 

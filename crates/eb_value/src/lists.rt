@@ -9,3 +9,10 @@ pub type Values = Items<Value>;
 
 /// Values in any order, one a place.
 pub type Row = Items<Value>;
+
+/// What a set may have as members: the values of a list, or any.
+#[derive(Drop)]
+pub enum May {
+    List(Values),
+    Any,
+}

@@ -4,7 +4,7 @@ ghost use Rattle.eb_value.specs.steps.Merges as spec;
 
 use crate::lists::Values;
 use crate::order::compare;
-use crate::value::{Form, Value, values_copied};
+use crate::value::{Form, Value, push_copy, values_copied};
 use std::alloc::{AllocError, Global};
 use std::cmp::Ordering;
 
@@ -100,7 +100,7 @@ fn push_below(
         if compare(other, value) != Ordering::Less {
             return Ok(());
         }
-        all.push(other.copied(alloc)?)?;
+        push_copy(alloc, all, other)?;
     }
     Ok(())
 }
@@ -114,7 +114,7 @@ pub(crate) fn merged(alloc: Global, a: &[Value], b: &[Value]) -> Result<Values, 
     for value in a {
         push_below(alloc, &mut all, rest, value)?;
         rest = after_value(from_value(rest, value), value);
-        all.push(value.copied(alloc)?)?;
+        push_copy(alloc, &mut all, value)?;
     }
     all.append(values_copied(alloc, rest)?)?;
     Ok(all)
@@ -138,7 +138,7 @@ pub(crate) fn kept(
         if let Some(key) = key_of(key, value) {
             rest = from_value(rest, key);
             if begins_with(rest, key) == keep {
-                all.push(value.copied(alloc)?)?;
+                push_copy(alloc, &mut all, value)?;
             }
         }
     }

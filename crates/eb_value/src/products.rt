@@ -7,7 +7,8 @@ ghost use Rattle.eb_value.specs.steps.Joins as step;
 ghost use Rattle.eb_value.specs.steps.Merges.{second_of};
 ghost use Rattle.eb_value.specs.Relations as spec;
 ghost use Rattle.eb_value.specs.Sets.{IsSetOf};
-ghost use Rattle.eb_value.specs.Values.{is_ascending};
+ghost use Rattle.eb_value.specs.Comprehensions as set;
+ghost use Rattle.eb_value.specs.Values.{is_ascending, layer};
 
 use crate::listing::{pair_of, pairs, push_pairs};
 use crate::lists::Values;
@@ -22,7 +23,8 @@ use std::cmp::Ordering;
 pub fn cross(alloc: Global, a: &Values, b: &Values) -> Result<Values, AllocError>
     requires first { is_ascending a.now ≡ true }
     requires second { is_ascending b.now ≡ true }
-    ensures { IfOk result (IsSetOf (spec.InCross a.now b.now)) }
+    ensures is_set { IfOk result (IsSetOf (spec.InCross a.now b.now)) }
+    ensures equals { IfOk result (λ xs. xs ≡ set.cross a.now b.now) }
 {
     pairs(alloc, a.as_slice(), b.as_slice())
 }
@@ -31,7 +33,8 @@ pub fn cross(alloc: Global, a: &Values, b: &Values) -> Result<Values, AllocError
 /// more than a small multiple of the memory of r, s and the result.
 pub fn compose(alloc: Global, r: &Values, s: &Values) -> Result<Values, AllocError>
     requires { is_ascending s.now ≡ true }
-    ensures { IfOk result (IsSetOf (spec.InCompose r.now s.now)) }
+    ensures is_set { IfOk result (IsSetOf (spec.InCompose r.now s.now)) }
+    ensures equals { IfOk result (λ xs. xs ≡ set.compose r.now s.now) }
 {
     let mut all = Vec::new(alloc);
     let mut rest = r.as_slice();
@@ -81,11 +84,25 @@ fn ends(alloc: Global, run: &[Value], s: &[Value]) -> Result<Vec<Value>, AllocEr
 {
     let mut all = Vec::new(alloc);
     for value in run {
-        if let Some(middle) = second_of(value) {
-            push_seconds(alloc, &mut all, images(s, middle))?;
-        }
+        push_ends(alloc, &mut all, value, s)?;
     }
     Ok(all)
+}
+
+fn push_ends(
+    alloc: Global,
+    all: &mut Vec<Value>,
+    value: &Value,
+    s: &[Value],
+) -> Result<(), AllocError>
+    requires { is_ascending s.now ≡ true }
+    ensures { OnOk result (all.new.items
+        ≡ all.old.items ++ step.ends_behind s.now (second_of value.now)) }
+{
+    if let Some(middle) = second_of(value) {
+        push_seconds(alloc, all, images(s, middle))?;
+    }
+    Ok(())
 }
 
 fn push_seconds(alloc: Global, all: &mut Vec<Value>, pairs: &[Value]) -> Result<(), AllocError>
@@ -103,7 +120,8 @@ fn push_seconds(alloc: Global, all: &mut Vec<Value>, pairs: &[Value]) -> Result<
 /// is want of memory.
 pub fn direct(alloc: Global, r: &Values, s: &Values) -> Result<Values, AllocError>
     requires { is_ascending s.now ≡ true }
-    ensures { IfOk result (IsSetOf (spec.InDirect r.now s.now)) }
+    ensures is_set { IfOk result (IsSetOf (spec.InDirect r.now s.now)) }
+    ensures equals { IfOk result (λ xs. xs ≡ set.direct r.now s.now) }
 {
     Ok(set_of(joins(alloc, r.as_slice(), s.as_slice(), Join::Direct)?))
 }
@@ -112,7 +130,8 @@ pub fn direct(alloc: Global, r: &Values, s: &Values) -> Result<Values, AllocErro
 /// only error is want of memory.
 pub fn parallel(alloc: Global, r: &Values, s: &Values) -> Result<Values, AllocError>
     requires { is_ascending s.now ≡ true }
-    ensures { IfOk result (IsSetOf (spec.InParallel r.now s.now)) }
+    ensures is_set { IfOk result (IsSetOf (spec.InParallel r.now s.now)) }
+    ensures equals { IfOk result (λ xs. xs ≡ set.parallel r.now s.now) }
 {
     Ok(set_of(joins(alloc, r.as_slice(), s.as_slice(), Join::Parallel)?))
 }
@@ -220,10 +239,25 @@ fn joins(alloc: Global, r: &[Value], s: &[Value], join: Join) -> Result<Vec<Valu
 {
     let mut all = Vec::new(alloc);
     for value in r {
-        if let Form::Pair(x, y) = &value.form {
-            let others = partners(s, join, x.get(), y.get());
-            push_joins(alloc, &mut all, x.get(), y.get(), others, join)?;
-        }
+        push_joins_of(alloc, &mut all, value, s, join)?;
     }
     Ok(all)
+}
+
+/// Adds what a member of the one relation is joined to in the other.
+fn push_joins_of(
+    alloc: Global,
+    all: &mut Vec<Value>,
+    value: &Value,
+    s: &[Value],
+    join: Join,
+) -> Result<(), AllocError>
+    requires { is_ascending s.now ≡ true }
+    ensures { OnOk result (all.new.items ≡ all.old.items ++ step.joins_in join s.now (layer value.now)) }
+{
+    if let Form::Pair(x, y) = &value.form {
+        let others = partners(s, join, x.get(), y.get());
+        push_joins(alloc, all, x.get(), y.get(), others, join)?;
+    }
+    Ok(())
 }

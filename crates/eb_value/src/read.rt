@@ -1,5 +1,5 @@
 ghost use Rattle.std.specs.Prelude.{◌≡◌, ◌≢◌, true, IfOk, [], pos, ◌≤ℤ◌, All, ◌<◌, ◌^◌};
-ghost use Rattle.eb_value.specs.Values.{atom, int, pair, set, truth as truth_value};
+ghost use Rattle.eb_value.specs.Values.{int};
 ghost use Rattle.std.specs.Option.{option_map};
 ghost use Rattle.eb_value.specs.declared.value.Value.{Value};
 ghost use Rattle.eb_value.specs.declared.read.ValueFault.TheVariants.{Memory};
@@ -13,9 +13,8 @@ use crate::scope::Scope;
 use crate::text::value_text;
 use crate::types::{EbType, Shape};
 use crate::typing::has_type;
-use crate::value::{Form, Value};
+use crate::value::Value;
 use eb_names::{Name, Names};
-use sqlite_items::Boxed;
 use std::alloc::{AllocError, AllocFailed, Global};
 
 /// Why no value was read.
@@ -102,21 +101,53 @@ fn value_at<'a>(
         Shape::Bool => truth_at(text).ok_or(ValueFault::Form),
         Shape::Carrier(place) => atom_at(text, *place, sizes, names).ok_or(ValueFault::Form),
         Shape::Product(s, t) => {
-            let rest = behind_text(b"(", text)?;
-            let (first, rest) = value_at(alloc, rest, s.get(), sizes, names)?;
-            let rest = behind_text(b"|->", rest)?;
-            let (second, rest) = value_at(alloc, rest, t.get(), sizes, names)?;
-            let rest = behind_text(b")", rest)?;
-            Ok((paired(alloc, first, second)?, rest))
+            let (first, rest) = opened_at(alloc, text, s.get(), sizes, names)?;
+            let (second, rest) = closed_at(alloc, rest, t.get(), sizes, names)?;
+            Ok((Value::pair(alloc, first, second)?, rest))
         }
         Shape::Power(t) => {
             let rest = behind_text(b"{", text)?;
             if let Some(end) = after(b"}", rest) {
-                return Ok((made_set(Values::new(alloc)), end));
+                return Ok((Value::set(Values::new(alloc)), end));
             }
             members_at(alloc, rest, t.get(), sizes, names)
         }
     }
+}
+
+/// A value behind `(` and before `|->`.
+#[cycle(reading)]
+fn opened_at<'a>(
+    alloc: Global,
+    text: &'a [u8],
+    ty: &EbType,
+    sizes: &[u32],
+    names: &Names,
+) -> Result<(Value, &'a [u8]), ValueFault>
+    ensures { Gives (λ x. (x.0, x.1.now)) result
+        (spec.opened_at (spec.value_at names.now sizes.now ty.now) text.now) }
+{
+    let rest = behind_text(b"(", text)?;
+    let (value, rest) = value_at(alloc, rest, ty, sizes, names)?;
+    let rest = behind_text(b"|->", rest)?;
+    Ok((value, rest))
+}
+
+/// A value before `)`.
+#[cycle(reading)]
+fn closed_at<'a>(
+    alloc: Global,
+    text: &'a [u8],
+    ty: &EbType,
+    sizes: &[u32],
+    names: &Names,
+) -> Result<(Value, &'a [u8]), ValueFault>
+    ensures { Gives (λ x. (x.0, x.1.now)) result
+        (spec.closed_at (spec.value_at names.now sizes.now ty.now) text.now) }
+{
+    let (value, rest) = value_at(alloc, text, ty, sizes, names)?;
+    let rest = behind_text(b")", rest)?;
+    Ok((value, rest))
 }
 
 /// A set's members up to the brace, and what is behind it.
@@ -140,7 +171,7 @@ fn members_at<'a>(
             return Err(ValueFault::Form);
         };
         if !goes_on {
-            return Ok((made_set(members), next));
+            return Ok((Value::set(members), next));
         }
         rest = next;
     }
@@ -156,24 +187,6 @@ fn behind(text: &[u8]) -> Option<(bool, &[u8])>
         [b'}', rest @ ..] => Some((false, rest)),
         _ => None,
     }
-}
-
-fn made_set(members: Values) -> Value
-    ensures { result ≡ set members }
-{
-    Value {
-        form: Form::Set(members),
-    }
-}
-
-fn paired(alloc: Global, first: Value, second: Value) -> Result<Value, AllocError>
-    ensures { IfOk result (λ v. v ≡ pair first second) }
-{
-    let first = Boxed::new(alloc, first)?;
-    let second = Boxed::new(alloc, second)?;
-    Ok(Value {
-        form: Form::Pair(first, second),
-    })
 }
 
 /// What is behind an expected text.
@@ -204,18 +217,10 @@ fn truth_at(text: &[u8]) -> Option<(Value, &[u8])>
     ensures { option_map (λ x. (x.0, x.1.now)) result ≡ spec.truth_at text.now }
 {
     if let Some(rest) = after(b"TRUE", text) {
-        return Some((made_truth(true), rest));
+        return Some((Value::truth(true), rest));
     }
     let rest = after(b"FALSE", text)?;
-    Some((made_truth(false), rest))
-}
-
-fn made_truth(truth: bool) -> Value
-    ensures { result ≡ truth_value truth }
-{
-    Value {
-        form: Form::Bool(truth),
-    }
+    Some((Value::truth(false), rest))
 }
 
 fn atom_at<'a>(
@@ -234,21 +239,13 @@ fn atom_at<'a>(
     if number > u64::from(size_of(sizes, place)) {
         return None;
     }
-    Some((made_atom(place, number as u32), rest))
+    Some((Value::atom(place, number as u32), rest))
 }
 
 fn size_of(sizes: &[u32], place: u32) -> u32
     ensures { result ≡ typing.size_of sizes.now place }
 {
     sizes.get(place as usize).copied().unwrap_or(0)
-}
-
-fn made_atom(place: u32, number: u32) -> Value
-    ensures { result ≡ atom place number }
-{
-    Value {
-        form: Form::Atom(place, number),
-    }
 }
 
 fn integer_at(text: &[u8]) -> (Value, &[u8])

@@ -6,6 +6,7 @@ ghost use Rattle.eb_value.specs.steps.Joins as step;
 ghost use Rattle.eb_value.specs.steps.Merges.{second_of};
 ghost use Rattle.eb_value.specs.Relations as spec;
 ghost use Rattle.eb_value.specs.Sets.{IsSetOf};
+ghost use Rattle.eb_value.specs.Comprehensions as set;
 ghost use Rattle.eb_value.specs.Values.{is_ascending};
 
 use crate::listing::pair_of;
@@ -19,7 +20,8 @@ use std::alloc::{AllocError, Global};
 pub fn dom_keep(alloc: Global, s: &Values, r: &Values) -> Result<Values, AllocError>
     requires set { is_ascending s.now ≡ true }
     requires relation { is_ascending r.now ≡ true }
-    ensures { IfOk result (IsSetOf (spec.InDomKeep s.now r.now)) }
+    ensures is_set { IfOk result (IsSetOf (spec.InDomKeep s.now r.now)) }
+    ensures equals { IfOk result (λ xs. xs ≡ set.dom_keep s.now r.now) }
 {
     kept(alloc, r.as_slice(), Key::First, s.as_slice(), true)
 }
@@ -28,7 +30,8 @@ pub fn dom_keep(alloc: Global, s: &Values, r: &Values) -> Result<Values, AllocEr
 pub fn dom_drop(alloc: Global, s: &Values, r: &Values) -> Result<Values, AllocError>
     requires set { is_ascending s.now ≡ true }
     requires relation { is_ascending r.now ≡ true }
-    ensures { IfOk result (IsSetOf (spec.InDomDrop s.now r.now)) }
+    ensures is_set { IfOk result (IsSetOf (spec.InDomDrop s.now r.now)) }
+    ensures equals { IfOk result (λ xs. xs ≡ set.dom_drop s.now r.now) }
 {
     kept(alloc, r.as_slice(), Key::First, s.as_slice(), false)
 }
@@ -37,7 +40,8 @@ pub fn dom_drop(alloc: Global, s: &Values, r: &Values) -> Result<Values, AllocEr
 pub fn ran_keep(alloc: Global, r: &Values, s: &Values) -> Result<Values, AllocError>
     requires relation { is_ascending r.now ≡ true }
     requires set { is_ascending s.now ≡ true }
-    ensures { IfOk result (IsSetOf (spec.InRanKeep r.now s.now)) }
+    ensures is_set { IfOk result (IsSetOf (spec.InRanKeep r.now s.now)) }
+    ensures equals { IfOk result (λ xs. xs ≡ set.ran_keep r.now s.now) }
 {
     kept_by_second(alloc, r.as_slice(), s, true)
 }
@@ -46,7 +50,8 @@ pub fn ran_keep(alloc: Global, r: &Values, s: &Values) -> Result<Values, AllocEr
 pub fn ran_drop(alloc: Global, r: &Values, s: &Values) -> Result<Values, AllocError>
     requires relation { is_ascending r.now ≡ true }
     requires set { is_ascending s.now ≡ true }
-    ensures { IfOk result (IsSetOf (spec.InRanDrop r.now s.now)) }
+    ensures is_set { IfOk result (IsSetOf (spec.InRanDrop r.now s.now)) }
+    ensures equals { IfOk result (λ xs. xs ≡ set.ran_drop r.now s.now) }
 {
     kept_by_second(alloc, r.as_slice(), s, false)
 }
@@ -56,7 +61,8 @@ pub fn ran_drop(alloc: Global, r: &Values, s: &Values) -> Result<Values, AllocEr
 pub fn overlay(alloc: Global, f: &Values, g: &Values) -> Result<Values, AllocError>
     requires under { is_ascending f.now ≡ true }
     requires over { is_ascending g.now ≡ true }
-    ensures { IfOk result (IsSetOf (spec.InOverlay f.now g.now)) }
+    ensures is_set { IfOk result (IsSetOf (spec.InOverlay f.now g.now)) }
+    ensures equals { IfOk result (λ xs. xs ≡ set.overlay f.now g.now) }
 {
     let firsts = domain(alloc, g)?;
     let others = dom_drop(alloc, &firsts, f)?;
@@ -65,21 +71,24 @@ pub fn overlay(alloc: Global, f: &Values, g: &Values) -> Result<Values, AllocErr
 
 /// dom(r): the firsts of the pairs of r. The only error is want of memory.
 pub fn domain(alloc: Global, r: &Values) -> Result<Values, AllocError>
-    ensures { IfOk result (IsSetOf (spec.InDomain r.now)) }
+    ensures is_set { IfOk result (IsSetOf (spec.InDomain r.now)) }
+    ensures equals { IfOk result (λ xs. xs ≡ set.domain r.now) }
 {
     Ok(set_of(parts(alloc, r.as_slice(), Part::First)?))
 }
 
 /// ran(r): the seconds of the pairs of r. The only error is want of memory.
 pub fn range(alloc: Global, r: &Values) -> Result<Values, AllocError>
-    ensures { IfOk result (IsSetOf (spec.InRange r.now)) }
+    ensures is_set { IfOk result (IsSetOf (spec.InRange r.now)) }
+    ensures equals { IfOk result (λ xs. xs ≡ set.range r.now) }
 {
     Ok(set_of(parts(alloc, r.as_slice(), Part::Second)?))
 }
 
 /// r∼: the pairs of r turned round. The only error is want of memory.
 pub fn inverse(alloc: Global, r: &Values) -> Result<Values, AllocError>
-    ensures { IfOk result (IsSetOf (spec.InInverse r.now)) }
+    ensures is_set { IfOk result (IsSetOf (spec.InInverse r.now)) }
+    ensures equals { IfOk result (λ xs. xs ≡ set.inverse r.now) }
 {
     Ok(set_of(parts(alloc, r.as_slice(), Part::Swapped)?))
 }
@@ -88,18 +97,11 @@ pub fn inverse(alloc: Global, r: &Values) -> Result<Values, AllocError>
 pub fn image(alloc: Global, r: &Values, s: &Values) -> Result<Values, AllocError>
     requires relation { is_ascending r.now ≡ true }
     requires set { is_ascending s.now ≡ true }
-    ensures { IfOk result (IsSetOf (spec.InImage r.now s.now)) }
+    ensures is_set { IfOk result (IsSetOf (spec.InImage r.now s.now)) }
+    ensures equals { IfOk result (λ xs. xs ≡ set.image r.now s.now) }
 {
     let pairs = dom_keep(alloc, s, r)?;
     range(alloc, &pairs)
-}
-
-/// `contains`, as one equation.
-fn has(s: &Values, v: &Value) -> bool
-    requires { is_ascending s.now ≡ true }
-    ensures { result ≡ step.has s.now v.now }
-{
-    contains(s, v)
 }
 
 fn kept_by_second(alloc: Global, r: &[Value], s: &Values, keep: bool) -> Result<Values, AllocError>
@@ -109,7 +111,7 @@ fn kept_by_second(alloc: Global, r: &[Value], s: &Values, keep: bool) -> Result<
     let mut all = Values::new(alloc);
     for value in r {
         if let Some(second) = second_of(value) {
-            if has(s, second) == keep {
+            if contains(s, second) == keep {
                 all.push(value.copied(alloc)?)?;
             }
         }

@@ -1,5 +1,6 @@
 ghost use Rattle.std.specs.Prelude.{◌≡◌, ◌↔◌, true, IfOk, IsTrue, Contains};
 ghost use Rattle.eb_value.specs.Sets as spec;
+ghost use Rattle.eb_value.specs.Comprehensions as set;
 ghost use Rattle.eb_value.specs.Values.{is_ascending};
 
 use crate::lists::Values;
@@ -11,16 +12,18 @@ use std::alloc::{AllocError, Global};
 /// Whether an ascending list has the value, by binary search.
 pub fn contains(s: &Values, v: &Value) -> bool
     requires { is_ascending s.now ≡ true }
-    ensures { IsTrue result ↔ Contains s.now v.now }
+    ensures is_member { IsTrue result ↔ Contains s.now v.now }
+    ensures equals { result ≡ set.has s.now v.now }
 {
     s.as_slice()
         .binary_search_by(|member| compare(member, v))
         .is_ok()
 }
 
-/// The set of the values in a list.
-pub(crate) fn set_of(values: Vec<Value>) -> Values
-    ensures { spec.IsSetOf (Contains values.items) result }
+/// The set of the values in a list, which may have them in any order and more than once.
+pub fn set_of(values: Vec<Value>) -> Values
+    ensures is_set { spec.IsSetOf (Contains values.items) result }
+    ensures equals { result ≡ set.set_of values.items }
 {
     let mut values = values;
     values.sort_unstable_by(|v, w| compare(v, w));
@@ -32,7 +35,8 @@ pub(crate) fn set_of(values: Vec<Value>) -> Values
 pub fn union(alloc: Global, a: &Values, b: &Values) -> Result<Values, AllocError>
     requires first { is_ascending a.now ≡ true }
     requires second { is_ascending b.now ≡ true }
-    ensures { IfOk result (spec.IsSetOf (spec.InUnion a.now b.now)) }
+    ensures is_set { IfOk result (spec.IsSetOf (spec.InUnion a.now b.now)) }
+    ensures equals { IfOk result (λ xs. xs ≡ set.union a.now b.now) }
 {
     merged(alloc, a.as_slice(), b.as_slice())
 }
@@ -41,7 +45,8 @@ pub fn union(alloc: Global, a: &Values, b: &Values) -> Result<Values, AllocError
 pub fn meet(alloc: Global, a: &Values, b: &Values) -> Result<Values, AllocError>
     requires first { is_ascending a.now ≡ true }
     requires second { is_ascending b.now ≡ true }
-    ensures { IfOk result (spec.IsSetOf (spec.InMeet a.now b.now)) }
+    ensures is_set { IfOk result (spec.IsSetOf (spec.InMeet a.now b.now)) }
+    ensures equals { IfOk result (λ xs. xs ≡ set.meet a.now b.now) }
 {
     kept(alloc, a.as_slice(), Key::Itself, b.as_slice(), true)
 }
@@ -50,7 +55,8 @@ pub fn meet(alloc: Global, a: &Values, b: &Values) -> Result<Values, AllocError>
 pub fn minus(alloc: Global, a: &Values, b: &Values) -> Result<Values, AllocError>
     requires first { is_ascending a.now ≡ true }
     requires second { is_ascending b.now ≡ true }
-    ensures { IfOk result (spec.IsSetOf (spec.InMinus a.now b.now)) }
+    ensures is_set { IfOk result (spec.IsSetOf (spec.InMinus a.now b.now)) }
+    ensures equals { IfOk result (λ xs. xs ≡ set.minus a.now b.now) }
 {
     kept(alloc, a.as_slice(), Key::Itself, b.as_slice(), false)
 }

@@ -8,26 +8,30 @@ fn byte_of(digits: &str) -> u8 {
     }
 }
 
+/// The white space that a letter stands for.
+fn white_space(letter: u8) -> Option<u8> {
+    match letter {
+        b'n' => Some(b'\n'),
+        b'r' => Some(b'\r'),
+        b't' => Some(b'\t'),
+        b'b' => Some(b' '),
+        _ => None,
+    }
+}
+
 /// What stands behind a `$`: `n`, `r` and `t` are white space, `b` a blank, `x` and two digits a byte, and a number with a text
 /// in quotes that text so many times.
 fn push_piece(piece: &str, bytes: &mut Vec<u8>) -> Result<(), AllocError> {
-    if let Some(rest) = piece.strip_prefix("n") {
-        bytes.push(b'\n')?;
-        return bytes.extend_from_slice(rest.as_bytes());
+    let [letter, rest @ ..] = piece.as_bytes() else {
+        return Ok(());
+    };
+    match white_space(*letter) {
+        Some(byte) => {
+            bytes.push(byte)?;
+            bytes.extend_from_slice(rest)
+        }
+        None => push_more(piece, bytes),
     }
-    if let Some(rest) = piece.strip_prefix("r") {
-        bytes.push(b'\r')?;
-        return bytes.extend_from_slice(rest.as_bytes());
-    }
-    if let Some(rest) = piece.strip_prefix("t") {
-        bytes.push(b'\t')?;
-        return bytes.extend_from_slice(rest.as_bytes());
-    }
-    if let Some(rest) = piece.strip_prefix("b") {
-        bytes.push(b' ')?;
-        return bytes.extend_from_slice(rest.as_bytes());
-    }
-    push_more(piece, bytes)
 }
 
 fn push_more(piece: &str, bytes: &mut Vec<u8>) -> Result<(), AllocError> {

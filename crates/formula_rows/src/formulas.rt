@@ -1,7 +1,10 @@
 use super::shown_formulas::{placed, show};
+use super::writing::{put_at, put_name, put_pair};
 use eb_lexer::{Tokens, tokens};
-use eb_parser::{FormulaKind, formula};
+use eb_parser::{FormulaKind, ParseFault, formula};
 use eb_spelling::spell;
+use eb_syntax::Ast;
+use sqlite_items::Boxed;
 use std::alloc::{AllocError, Global};
 use std::str;
 
@@ -16,29 +19,61 @@ fn tokens_of(alloc: Global, text: &[u8]) -> Option<Tokens> {
     }
 }
 
-/// The formula of the kind at a position, its operators first, and how many tokens are behind it where there are some; or the
-/// fault.
-fn shown_at(
+/// The formula of the kind at a position, in a box, and the position behind it.
+fn boxed_formula(
     alloc: Global,
     tokens: &Tokens,
     position: u32,
     kind: FormulaKind,
-) -> Result<String, AllocError> {
-    let mut out = String::new(alloc);
+) -> Result<(Boxed<Ast>, u32), ParseFault> {
     if tokens.len() >= 1 << 32 {
-        return Ok(out);
+        return Err(ParseFault::Memory);
     }
-    match formula(alloc, tokens, position, kind) {
-        Ok((ast, end)) => {
-            show(&ast, &mut out)?;
-            let left = tokens.len().saturating_sub(end as usize);
-            if left > 0 {
-                write!(out, " +{left}")?;
-            }
-        }
-        Err(fault) => write!(out, "{fault:?}")?,
+    let (ast, end) = formula(alloc, tokens, position, kind)?;
+    Ok((Boxed::new(alloc, ast)?, end))
+}
+
+/// The formula, its operators first, and how many tokens are behind it where there are some.
+fn show_found(ast: &Ast, left: usize, out: &mut String) -> Result<(), AllocError> {
+    show(ast, out)?;
+    if left > 0 {
+        write!(out, " +{left}")?;
     }
-    Ok(out)
+    Ok(())
+}
+
+/// The places of the formula's parts, and the position behind it.
+fn show_places(ast: &Ast, end: u32, out: &mut String) -> Result<(), AllocError> {
+    placed(ast, out)?;
+    put_at("to ", end, out)
+}
+
+/// The formula of the kind at a position, or the fault.
+fn show_at(
+    alloc: Global,
+    tokens: &Tokens,
+    position: u32,
+    kind: FormulaKind,
+    out: &mut String,
+) -> Result<(), AllocError> {
+    match boxed_formula(alloc, tokens, position, kind) {
+        Ok((ast, end)) => show_found(ast.get(), tokens.len().saturating_sub(end as usize), out),
+        Err(fault) => put_name("", fault, out),
+    }
+}
+
+/// The places of the formula of the kind at a position, or the fault.
+fn show_places_at(
+    alloc: Global,
+    tokens: &Tokens,
+    position: u32,
+    kind: FormulaKind,
+    out: &mut String,
+) -> Result<(), AllocError> {
+    match boxed_formula(alloc, tokens, position, kind) {
+        Ok((ast, end)) => show_places(ast.get(), end, out),
+        Err(fault) => put_name("", fault, out),
+    }
 }
 
 /// The formula of the kind at a position of the text.
@@ -48,10 +83,12 @@ pub(crate) fn formula_at(
     position: u32,
     kind: FormulaKind,
 ) -> Result<String, AllocError> {
+    let mut out = String::new(alloc);
     match tokens_of(alloc, text) {
-        Some(tokens) => shown_at(alloc, &tokens, position, kind),
-        None => String::from_str(alloc, "no tokens"),
+        Some(tokens) => show_at(alloc, &tokens, position, kind, &mut out)?,
+        None => out.push_str("no tokens")?,
     }
+    Ok(out)
 }
 
 /// Whether the formula at the front is the whole text, or the fault.
@@ -76,40 +113,40 @@ pub(crate) fn places_at(
     kind: FormulaKind,
 ) -> Result<String, AllocError> {
     let mut out = String::new(alloc);
-    let Some(tokens) = tokens_of(alloc, text) else {
-        return String::from_str(alloc, "no tokens");
-    };
-    if tokens.len() >= 1 << 32 {
-        return Ok(out);
-    }
-    match formula(alloc, &tokens, position, kind) {
-        Ok((ast, end)) => {
-            placed(&ast, &mut out)?;
-            write!(out, "to {end}")?;
-        }
-        Err(fault) => write!(out, "{fault:?}")?,
+    match tokens_of(alloc, text) {
+        Some(tokens) => show_places_at(alloc, &tokens, position, kind, &mut out)?,
+        None => out.push_str("no tokens")?,
     }
     Ok(out)
 }
 
+/// The text that the formula is spelled with.
+fn show_spelled(alloc: Global, ast: &Ast, out: &mut String) -> Result<(), AllocError> {
+    let text = spell(alloc, ast)?;
+    out.push_str(str::from_utf8(text.as_slice()).unwrap_or("no UTF-8"))
+}
+
+/// The text that the formula at the front is spelled with, or the fault.
+fn show_spelled_at(
+    alloc: Global,
+    tokens: &Tokens,
+    kind: FormulaKind,
+    out: &mut String,
+) -> Result<(), AllocError> {
+    match boxed_formula(alloc, tokens, 0, kind) {
+        Ok((ast, _)) => show_spelled(alloc, ast.get(), out),
+        Err(fault) => put_name("", fault, out),
+    }
+}
+
 /// The text that the formula at the front is spelled with.
 pub(crate) fn spelled(alloc: Global, text: &[u8], kind: FormulaKind) -> Result<String, AllocError> {
-    let Some(tokens) = tokens_of(alloc, text) else {
-        return String::from_str(alloc, "no tokens");
-    };
-    if tokens.len() >= 1 << 32 {
-        return Ok(String::new(alloc));
+    let mut out = String::new(alloc);
+    match tokens_of(alloc, text) {
+        Some(tokens) => show_spelled_at(alloc, &tokens, kind, &mut out)?,
+        None => out.push_str("no tokens")?,
     }
-    match formula(alloc, &tokens, 0, kind) {
-        Ok((ast, _)) => {
-            let text = spell(alloc, &ast)?;
-            match str::from_utf8(text.as_slice()) {
-                Ok(text) => String::from_str(alloc, text),
-                Err(_) => String::from_str(alloc, "no UTF-8"),
-            }
-        }
-        Err(fault) => format!(in alloc; "{fault:?}"),
-    }
+    Ok(out)
 }
 
 /// The formula that is read of the text that the formula at the front is spelled with; ` +N` is left as it is with the first.
@@ -122,7 +159,7 @@ pub(crate) fn respelled(
     let again = spelled(alloc, text, kind)?;
     let mut out = formula_at(alloc, again.as_str().as_bytes(), 0, kind)?;
     if let Some((_, left)) = first.as_str().rsplit_once(" +") {
-        write!(out, " +{left}")?;
+        put_pair(" +", left, &mut out)?;
     }
     Ok(out)
 }

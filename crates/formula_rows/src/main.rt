@@ -9,6 +9,7 @@ mod shown_formulas;
 mod shown_units;
 mod tokens;
 mod units;
+mod writing;
 
 use columns::bytes_of;
 use kinds::{Kind, answer, kind_of};

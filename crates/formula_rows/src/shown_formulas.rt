@@ -1,3 +1,4 @@
+use super::writing::{put_at, put_name, put_pair};
 use eb_syntax::{Ast, Bound, Identifier, Mark, Node};
 use std::alloc::AllocError;
 
@@ -7,102 +8,84 @@ pub(crate) fn show(ast: &Ast, out: &mut String) -> Result<(), AllocError> {
     match &ast.node {
         Node::Number(n) => write!(out, "{n}"),
         Node::Identifier(name) => out.push_str(name.as_str()),
-        Node::Primed(name) => write!(out, "{}'", name.as_str()),
-        Node::Constant(constant) => write!(out, "{constant:?}"),
-        Node::Prefix(prefix, part) => {
-            write!(out, "({prefix:?} ")?;
-            show(part.get(), out)?;
-            out.push(')')
-        }
-        Node::Call(call, part) => {
-            write!(out, "({call:?} ")?;
-            show(part.get(), out)?;
-            out.push(')')
-        }
+        Node::Primed(name) => put_pair(name.as_str(), "'", out),
+        Node::Constant(constant) => put_name("", *constant, out),
         Node::Parentheses(part) => {
             out.push('[')?;
             show(part.get(), out)?;
             out.push(']')
         }
-        Node::Inverse(part) => {
-            out.push_str("(Inverse ")?;
-            show(part.get(), out)?;
+        node => {
+            show_head(node, out)?;
+            show_parts(node, out)?;
             out.push(')')
         }
-        _ => show_more(&ast.node, out),
     }
 }
 
-#[cycle(show)]
-fn show_more(node: &Node, out: &mut String) -> Result<(), AllocError> {
+/// What stands before the parts of a formula that has some, with a blank behind it.
+fn show_head(node: &Node, out: &mut String) -> Result<(), AllocError> {
     match node {
-        Node::Operator(operator, left, right) => {
-            write!(out, "({operator:?} ")?;
-            show(left.get(), out)?;
-            out.push(' ')?;
-            show(right.get(), out)?;
-            out.push(')')
+        Node::Prefix(prefix, _) => put_name("(", *prefix, out),
+        Node::Call(call, _) => put_name("(", *call, out),
+        Node::Inverse(_) => out.push_str("(Inverse"),
+        Node::Operator(operator, _, _) => put_name("(", *operator, out),
+        Node::Quantifier(quantifier, names, _) => {
+            put_name("(", *quantifier, out)?;
+            show_names(names.as_slice(), out)
         }
-        Node::Quantifier(quantifier, names, part) => {
-            write!(out, "({quantifier:?} ")?;
-            show_names(names.as_slice(), out)?;
-            show(part.get(), out)?;
-            out.push(')')
+        Node::Binder(binder, bound, _, _) => {
+            put_name("(", *binder, out)?;
+            show_bound(bound, out)
         }
-        Node::Binder(binder, bound, condition, value) => {
-            write!(out, "({binder:?} ")?;
-            show_bound(bound, out)?;
-            show(condition.get(), out)?;
-            out.push(' ')?;
-            show(value.get(), out)?;
-            out.push(')')
+        Node::Comprehension(names, _, _) => {
+            out.push_str("(Set")?;
+            show_names(names.as_slice(), out)
         }
-        _ => show_braces(node, out),
+        Node::Builder(_, _) => out.push_str("(Build"),
+        Node::Extension(_) => out.push_str("(Members"),
+        Node::Partition(_) => out.push_str("(Partition"),
+        _ => Ok(()),
     }
 }
 
+/// The parts of a formula, with a blank before each.
 #[cycle(show)]
-fn show_braces(node: &Node, out: &mut String) -> Result<(), AllocError> {
+fn show_parts(node: &Node, out: &mut String) -> Result<(), AllocError> {
     match node {
-        Node::Comprehension(names, condition, value) => {
-            out.push_str("(Set ")?;
-            show_names(names.as_slice(), out)?;
-            show(condition.get(), out)?;
-            out.push(' ')?;
-            show(value.get(), out)?;
-            out.push(')')
+        Node::Prefix(_, part)
+        | Node::Call(_, part)
+        | Node::Inverse(part)
+        | Node::Quantifier(_, _, part) => show_part(part.get(), out),
+        Node::Operator(_, left, right)
+        | Node::Binder(_, _, left, right)
+        | Node::Comprehension(_, left, right)
+        | Node::Builder(left, right) => {
+            show_part(left.get(), out)?;
+            show_part(right.get(), out)
         }
-        Node::Builder(value, condition) => {
-            out.push_str("(Build ")?;
-            show(value.get(), out)?;
-            out.push(' ')?;
-            show(condition.get(), out)?;
-            out.push(')')
-        }
-        Node::Extension(members) => {
-            out.push_str("(Members")?;
-            show_row(members.as_slice(), out)
-        }
-        Node::Partition(members) => {
-            out.push_str("(Partition")?;
-            show_row(members.as_slice(), out)
-        }
+        Node::Extension(members) | Node::Partition(members) => show_row(members.as_slice(), out),
         _ => Ok(()),
     }
 }
 
 #[cycle(show)]
+fn show_part(part: &Ast, out: &mut String) -> Result<(), AllocError> {
+    out.push(' ')?;
+    show(part, out)
+}
+
+#[cycle(show)]
 fn show_row(members: &[Ast], out: &mut String) -> Result<(), AllocError> {
     for member in members {
-        out.push(' ')?;
-        show(member, out)?;
+        show_part(member, out)?;
     }
-    out.push(')')
+    Ok(())
 }
 
 fn show_names(names: &[Identifier], out: &mut String) -> Result<(), AllocError> {
     for name in names {
-        write!(out, "{} ", name.name.as_str())?;
+        put_pair(" ", name.name.as_str(), out)?;
     }
     Ok(())
 }
@@ -115,10 +98,11 @@ fn show_bound(bound: &Bound, out: &mut String) -> Result<(), AllocError> {
 }
 
 fn show_pattern(pattern: &[Mark], out: &mut String) -> Result<(), AllocError> {
+    out.push(' ')?;
     for mark in pattern {
         show_mark(mark, out)?;
     }
-    out.push(' ')
+    Ok(())
 }
 
 fn show_mark(mark: &Mark, out: &mut String) -> Result<(), AllocError> {
@@ -133,7 +117,8 @@ fn show_mark(mark: &Mark, out: &mut String) -> Result<(), AllocError> {
 /// The places of a formula's parts, the whole before its parts.
 #[cycle(placed)]
 pub(crate) fn placed(ast: &Ast, out: &mut String) -> Result<(), AllocError> {
-    write!(out, "{} ", ast.place)?;
+    put_at("", ast.place, out)?;
+    out.push(' ')?;
     match &ast.node {
         Node::Prefix(_, part)
         | Node::Call(_, part)

@@ -1,3 +1,4 @@
+use super::writing::{put_at, put_name, put_pair};
 use eb_names::Name;
 use eb_syntax::{
     Action, Assignment, Ast, Context, ContextClause, EbUnit, Event, Goal, Identifier, Inheritance,
@@ -6,26 +7,32 @@ use eb_syntax::{
 };
 use std::alloc::AllocError;
 
+fn show_name(name: &Identifier, out: &mut String) -> Result<(), AllocError> {
+    out.push(' ')?;
+    put_at(name.name.as_str(), name.place, out)
+}
+
 fn show_names(names: &[Identifier], out: &mut String) -> Result<(), AllocError> {
     for name in names {
-        write!(out, " {}{}", name.name.as_str(), name.place)?;
+        show_name(name, out)?;
     }
     Ok(())
 }
 
 fn show_bare(names: &[Name], out: &mut String) -> Result<(), AllocError> {
     for name in names {
-        write!(out, " {}", name.as_str())?;
+        put_pair(" ", name.as_str(), out)?;
     }
     Ok(())
 }
 
 fn show_label(label: &Label, out: &mut String) -> Result<(), AllocError> {
-    write!(out, " {}{}", label.name.as_str(), label.place)
+    out.push(' ')?;
+    put_at(label.name.as_str(), label.place, out)
 }
 
 fn show_formula(ast: &Ast, out: &mut String) -> Result<(), AllocError> {
-    write!(out, " F{}", ast.place)
+    put_at(" F", ast.place, out)
 }
 
 fn show_formulas(asts: &[Ast], out: &mut String) -> Result<(), AllocError> {
@@ -46,32 +53,32 @@ fn show_predicates(predicates: &[LabelledPredicate], out: &mut String) -> Result
     Ok(())
 }
 
+fn show_named(word: &str, names: &[Identifier], out: &mut String) -> Result<(), AllocError> {
+    out.push_str(word)?;
+    show_names(names, out)
+}
+
+fn show_stated(
+    word: &str,
+    predicates: &[LabelledPredicate],
+    out: &mut String,
+) -> Result<(), AllocError> {
+    out.push_str(word)?;
+    show_predicates(predicates, out)
+}
+
 fn show_context_clause(clause: &ContextClause, out: &mut String) -> Result<(), AllocError> {
     match clause {
-        ContextClause::Sets(names) => {
-            out.push_str(" sets")?;
-            show_names(names.as_slice(), out)
-        }
-        ContextClause::Constants(names) => {
-            out.push_str(" constants")?;
-            show_names(names.as_slice(), out)
-        }
-        ContextClause::Axioms(axioms) => {
-            out.push_str(" axioms")?;
-            show_predicates(axioms.as_slice(), out)
-        }
+        ContextClause::Sets(names) => show_named(" sets", names.as_slice(), out),
+        ContextClause::Constants(names) => show_named(" constants", names.as_slice(), out),
+        ContextClause::Axioms(axioms) => show_stated(" axioms", axioms.as_slice(), out),
     }
 }
 
 fn show_context(context: &Context, out: &mut String) -> Result<(), AllocError> {
-    write!(
-        out,
-        "context {}{}",
-        context.name.name.as_str(),
-        context.name.place
-    )?;
-    out.push_str(" extends")?;
-    show_names(context.extends.as_slice(), out)?;
+    out.push_str("context")?;
+    show_name(&context.name, out)?;
+    show_named(" extends", context.extends.as_slice(), out)?;
     for clause in context.clauses.as_slice() {
         show_context_clause(clause, out)?;
     }
@@ -79,7 +86,7 @@ fn show_context(context: &Context, out: &mut String) -> Result<(), AllocError> {
 }
 
 fn show_names_part(word: &str, clause: &NamesClause, out: &mut String) -> Result<(), AllocError> {
-    write!(out, " {word}{}", clause.place)?;
+    put_at(word, clause.place, out)?;
     show_names(clause.names.as_slice(), out)
 }
 
@@ -90,41 +97,45 @@ fn show_predicates_part(
 ) -> Result<(), AllocError> {
     match clause {
         Some(clause) => {
-            write!(out, " {word}{}", clause.place)?;
+            put_at(word, clause.place, out)?;
             show_predicates(clause.predicates.as_slice(), out)
         }
         None => Ok(()),
     }
 }
 
+fn show_values(word: &str, values: &[Ast], out: &mut String) -> Result<(), AllocError> {
+    out.push_str(word)?;
+    show_formulas(values, out)
+}
+
+fn show_override(
+    name: &Identifier,
+    argument: &Ast,
+    value: &Ast,
+    out: &mut String,
+) -> Result<(), AllocError> {
+    show_name(name, out)?;
+    put_at(" (F", argument.place, out)?;
+    put_at(") := F", value.place, out)
+}
+
 fn show_assignment(assignment: &Assignment, out: &mut String) -> Result<(), AllocError> {
     match assignment {
         Assignment::BecomesEqual(names, values) => {
             show_names(names.as_slice(), out)?;
-            out.push_str(" :=")?;
-            show_formulas(values.as_slice(), out)
+            show_values(" :=", values.as_slice(), out)
         }
-        Assignment::BecomesEqualAt(name, argument, value) => write!(
-            out,
-            " {}{} (F{}) := F{}",
-            name.name.as_str(),
-            name.place,
-            argument.place,
-            value.place
-        ),
+        Assignment::BecomesEqualAt(name, argument, value) => {
+            show_override(name, argument, value, out)
+        }
         Assignment::BecomesMember(name, set) => {
-            write!(
-                out,
-                " {}{} :: F{}",
-                name.name.as_str(),
-                name.place,
-                set.place
-            )
+            show_name(name, out)?;
+            put_at(" :: F", set.place, out)
         }
         Assignment::BecomesSuchThat(names, condition) => {
             show_names(names.as_slice(), out)?;
-            out.push_str(" :|")?;
-            show_formula(condition, out)
+            put_at(" :| F", condition.place, out)
         }
     }
 }
@@ -140,13 +151,13 @@ fn show_actions(actions: &[Action], out: &mut String) -> Result<(), AllocError> 
 
 fn show_event_head(event: &Event, out: &mut String) -> Result<(), AllocError> {
     match event.convergence {
-        Some(convergence) => write!(out, " {convergence:?}")?,
+        Some(convergence) => put_name(" ", convergence, out)?,
         None => out.push_str(" plain")?,
     }
-    write!(out, " {}{}", event.name.name.as_str(), event.name.place)?;
+    show_name(&event.name, out)?;
     match &event.inheritance {
-        Some(Inheritance::Refines(clause)) => show_names_part("refines", clause, out),
-        Some(Inheritance::Extends(clause)) => show_names_part("extends", clause, out),
+        Some(Inheritance::Refines(clause)) => show_names_part(" refines", clause, out),
+        Some(Inheritance::Extends(clause)) => show_names_part(" extends", clause, out),
         None => Ok(()),
     }
 }
@@ -154,56 +165,40 @@ fn show_event_head(event: &Event, out: &mut String) -> Result<(), AllocError> {
 fn show_event(event: &Event, out: &mut String) -> Result<(), AllocError> {
     show_event_head(event, out)?;
     if let Some(parameters) = &event.parameters {
-        show_names_part("any", parameters, out)?;
+        show_names_part(" any", parameters, out)?;
     }
-    show_predicates_part("where", &event.guards, out)?;
-    show_predicates_part("with", &event.witnesses, out)?;
+    show_predicates_part(" where", &event.guards, out)?;
+    show_predicates_part(" with", &event.witnesses, out)?;
     show_actions(event.actions.as_slice(), out)
+}
+
+fn show_events(events: &[Event], out: &mut String) -> Result<(), AllocError> {
+    out.push_str(" events")?;
+    for event in events {
+        show_event(event, out)?;
+    }
+    Ok(())
 }
 
 fn show_machine_clause(clause: &MachineClause, out: &mut String) -> Result<(), AllocError> {
     match clause {
-        MachineClause::Variables(names) => {
-            out.push_str(" variables")?;
-            show_names(names.as_slice(), out)
-        }
+        MachineClause::Variables(names) => show_named(" variables", names.as_slice(), out),
         MachineClause::Invariants(invariants) => {
-            out.push_str(" invariants")?;
-            show_predicates(invariants.as_slice(), out)
+            show_stated(" invariants", invariants.as_slice(), out)
         }
-        MachineClause::Variant(_, value) => {
-            out.push_str(" variant")?;
-            show_formula(value, out)
-        }
-        MachineClause::Events(events) => {
-            out.push_str(" events")?;
-            for event in events.as_slice() {
-                show_event(event, out)?;
-            }
-            Ok(())
-        }
+        MachineClause::Variant(_, value) => put_at(" variant F", value.place, out),
+        MachineClause::Events(events) => show_events(events.as_slice(), out),
     }
 }
 
 fn show_machine(machine: &Machine, out: &mut String) -> Result<(), AllocError> {
-    write!(
-        out,
-        "machine{} {}{}",
-        machine.place,
-        machine.name.name.as_str(),
-        machine.name.place
-    )?;
+    put_at("machine", machine.place, out)?;
+    show_name(&machine.name, out)?;
     if let Some(refinement) = &machine.refines {
-        write!(
-            out,
-            " refines{} {}{}",
-            refinement.place,
-            refinement.machine.name.as_str(),
-            refinement.machine.place
-        )?;
+        put_at(" refines", refinement.place, out)?;
+        show_name(&refinement.machine, out)?;
     }
-    out.push_str(" sees")?;
-    show_names(machine.sees.as_slice(), out)?;
+    show_named(" sees", machine.sees.as_slice(), out)?;
     for clause in machine.clauses.as_slice() {
         show_machine_clause(clause, out)?;
     }
@@ -212,16 +207,24 @@ fn show_machine(machine: &Machine, out: &mut String) -> Result<(), AllocError> {
 
 fn show_setting(setting: &ScopeSetting, out: &mut String) -> Result<(), AllocError> {
     match setting {
-        ScopeSetting::Integers(place, lo, hi) => write!(out, " int{place} {lo}..{hi}"),
-        ScopeSetting::Size(set, size) => {
-            write!(out, " size {}{} {size}", set.name.as_str(), set.place)
+        ScopeSetting::Integers(place, lo, hi) => {
+            put_at(" int", *place, out)?;
+            write!(out, " {lo}..{hi}")
         }
-        ScopeSetting::Depth(place, depth) => write!(out, " depth{place} {depth}"),
+        ScopeSetting::Size(set, size) => {
+            out.push_str(" size")?;
+            show_name(set, out)?;
+            write!(out, " {size}")
+        }
+        ScopeSetting::Depth(place, depth) => {
+            put_at(" depth", *place, out)?;
+            write!(out, " {depth}")
+        }
     }
 }
 
 fn show_scope(scope: &ScopeBlock, out: &mut String) -> Result<(), AllocError> {
-    write!(out, "scope{}", scope.place)?;
+    put_at("scope", scope.place, out)?;
     for setting in scope.settings.as_slice() {
         show_setting(setting, out)?;
     }
@@ -230,33 +233,46 @@ fn show_scope(scope: &ScopeBlock, out: &mut String) -> Result<(), AllocError> {
 
 fn show_goal(goal: &Goal, out: &mut String) -> Result<(), AllocError> {
     match goal {
-        Goal::Take(event) => write!(out, " take {}", event.as_str()),
-        Goal::False(event, guard) => write!(out, " false {} {guard}", event.as_str()),
+        Goal::Take(event) => put_pair(" take ", event.as_str(), out),
+        Goal::False(event, guard) => {
+            put_pair(" false ", event.as_str(), out)?;
+            write!(out, " {guard}")
+        }
     }
 }
 
 fn show_target(word: &str, name: &Name, label: &Name, out: &mut String) -> Result<(), AllocError> {
-    write!(out, " {word} {} {}", name.as_str(), label.as_str())
+    put_pair(word, name.as_str(), out)?;
+    put_pair(" ", label.as_str(), out)
+}
+
+fn show_steps(word: &str, events: &[Name], out: &mut String) -> Result<(), AllocError> {
+    out.push_str(word)?;
+    show_bare(events, out)
 }
 
 fn show_query(query: &Query, out: &mut String) -> Result<(), AllocError> {
     match query {
         Query::Axioms => out.push_str(" axioms"),
-        Query::Enabled(event) => write!(out, " enabled {}", event.as_str()),
-        Query::Invariant(event, label) => show_target("invariant", event, label, out),
+        Query::Enabled(event) => put_pair(" enabled ", event.as_str(), out),
+        Query::Invariant(event, label) => show_target(" invariant ", event, label, out),
         Query::Deadlock => out.push_str(" deadlock"),
-        Query::Sequence(events) => {
-            out.push_str(" sequence")?;
-            show_bare(events.as_slice(), out)
-        }
-        Query::WellDefined(unit, label) => show_target("wd", unit, label, out),
-        Query::Theorem(unit, label) => show_target("theorem", unit, label, out),
+        Query::Sequence(events) => show_steps(" sequence", events.as_slice(), out),
+        Query::WellDefined(unit, label) => show_target(" wd ", unit, label, out),
+        Query::Theorem(unit, label) => show_target(" theorem ", unit, label, out),
         Query::Goal(events, goal) => {
-            out.push_str(" goal")?;
-            show_bare(events.as_slice(), out)?;
+            show_steps(" goal", events.as_slice(), out)?;
             show_goal(goal, out)
         }
     }
+}
+
+fn show_queries(queries: &[Query], out: &mut String) -> Result<(), AllocError> {
+    out.push_str("queries")?;
+    for query in queries {
+        show_query(query, out)?;
+    }
+    Ok(())
 }
 
 /// A unit in words: each name and label with its place, a formula as F and its place, and each other place behind its word.
@@ -265,12 +281,6 @@ pub(crate) fn show_unit(unit: &EbUnit, out: &mut String) -> Result<(), AllocErro
         EbUnit::Context(context) => show_context(context, out),
         EbUnit::Machine(machine) => show_machine(machine, out),
         EbUnit::Scope(scope) => show_scope(scope, out),
-        EbUnit::Queries(queries) => {
-            out.push_str("queries")?;
-            for query in queries.as_slice() {
-                show_query(query, out)?;
-            }
-            Ok(())
-        }
+        EbUnit::Queries(queries) => show_queries(queries.as_slice(), out),
     }
 }

@@ -1,20 +1,21 @@
+use super::writing::{put_at, put_name, put_pair};
 use eb_lexer::{LexFault, TokenKind, tokens};
 use std::alloc::{AllocError, Global};
 
 fn show_kind(kind: &TokenKind, out: &mut String) -> Result<(), AllocError> {
     match kind {
         TokenKind::Word(name) => out.push_str(name.as_str()),
-        TokenKind::Primed(name) => write!(out, "{}'", name.as_str()),
-        TokenKind::Label(name) => write!(out, "@{}", name.as_str()),
+        TokenKind::Primed(name) => put_pair(name.as_str(), "'", out),
+        TokenKind::Label(name) => put_pair("@", name.as_str(), out),
         TokenKind::Number(n) => write!(out, "{n}"),
-        TokenKind::Sign(sign) => write!(out, "{sign:?}"),
+        TokenKind::Sign(sign) => put_name("", *sign, out),
     }
 }
 
 fn show_fault(fault: LexFault, out: &mut String) -> Result<(), AllocError> {
     match fault {
         LexFault::NotUtf8 => out.push_str("NotUtf8"),
-        LexFault::BadToken(at) => write!(out, "BadToken {at}"),
+        LexFault::BadToken(at) => put_at("BadToken ", at, out),
         LexFault::Memory => Err(AllocError),
     }
 }
@@ -51,7 +52,8 @@ pub(crate) fn places(alloc: Global, text: &[u8]) -> Result<String, AllocError> {
                 if !out.is_empty() {
                     out.push(' ')?;
                 }
-                write!(out, "{}-{}", token.start, token.end)?;
+                put_at("", token.start, &mut out)?;
+                put_at("-", token.end, &mut out)?;
             }
         }
         Err(fault) => show_fault(fault, &mut out)?,

@@ -1,4 +1,5 @@
 use super::shown_units::show_unit;
+use super::writing::put_name;
 use eb_lexer::tokens;
 use eb_units::units;
 use std::alloc::{AllocError, Global};
@@ -22,7 +23,7 @@ pub(crate) fn units_of(alloc: Global, text: &[u8]) -> Result<String, AllocError>
                 out.push(';')?;
             }
         }
-        Err(fault) => write!(out, "{fault:?}")?,
+        Err(fault) => put_name("", fault, &mut out)?,
     }
     Ok(out)
 }

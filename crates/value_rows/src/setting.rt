@@ -4,7 +4,7 @@ ghost use Rattle.std.specs.Prelude.{IfOk};
 ghost use Rattle.eb_value.specs.Texts.{AreReadable};
 
 use eb_names::{Bytes, Name, Names};
-use eb_value::{EbType, Form, Scope, Sizes, Value, ValueFault, Values, read_value, value_text};
+use eb_value::{EbType, Scope, Sizes, Value, ValueFault, Values, read_value, value_text};
 use std::alloc::{AllocError, Global};
 
 /// The names of the carrier sets.
@@ -63,23 +63,6 @@ pub(crate) fn value_of(
     }
 }
 
-/// The members of the set of the type whose text this is.
-pub(crate) fn members_of(
-    alloc: Global,
-    scope: &Scope,
-    ty: &EbType,
-    text: &[u8],
-) -> Result<Option<Values>, AllocError> {
-    match value_of(alloc, scope, ty, text)? {
-        Some(
-            Value {
-                form: Form::Set(members),
-            },
-        ) => Ok(Some(members)),
-        _ => Ok(None),
-    }
-}
-
 /// The text of a value.
 pub(crate) fn text_of(alloc: Global, value: &Value) -> Result<Bytes, AllocError> {
     let names = names(alloc)?;
@@ -88,8 +71,5 @@ pub(crate) fn text_of(alloc: Global, value: &Value) -> Result<Bytes, AllocError>
 
 /// The text of the set with these members.
 pub(crate) fn set_text(alloc: Global, members: Values) -> Result<Bytes, AllocError> {
-    let set = Value {
-        form: Form::Set(members),
-    };
-    text_of(alloc, &set)
+    text_of(alloc, &Value::set(members))
 }

@@ -3,10 +3,9 @@
 #![tactic(auto)]
 
 use eb_value::{
-    EbType, Form, Scope, Shape, Sizes, Value, Values, compose, count, cross, is_ascending, union,
-    values,
+    EbType, Scope, Sizes, Value, Values, compose, count, cross, integers, is_ascending, union,
+    union_all, values,
 };
-use sqlite_items::Boxed;
 use std::alloc::{AllocError, Global};
 use std::{env, io};
 
@@ -15,11 +14,8 @@ fn successors(alloc: Global, from: u32, many: u32) -> Result<Values, AllocError>
     let mut pairs = Values::new(alloc);
     for k in 0..many {
         let first = i64::from(from) + i64::from(k);
-        let first_part = Boxed::new(alloc, Value::integer(first))?;
-        let second_part = Boxed::new(alloc, Value::integer(first + 1))?;
-        pairs.push(Value {
-            form: Form::Pair(first_part, second_part),
-        })?;
+        let second = Value::integer(first + 1);
+        pairs.push(Value::pair(alloc, Value::integer(first), second)?)?;
     }
     Ok(pairs)
 }
@@ -46,12 +42,7 @@ fn all_sets(alloc: Global) -> Result<Values, AllocError> {
         sizes,
         depth: 0,
     };
-    let atoms = EbType {
-        shape: Shape::Carrier(0),
-    };
-    let sets = EbType {
-        shape: Shape::Power(Boxed::new(alloc, atoms)?),
-    };
+    let sets = EbType::power(alloc, EbType::carrier(0))?;
     if count(&sets, &scope) <= 65536 {
         values(alloc, &sets, &scope)
     } else {
@@ -70,9 +61,22 @@ fn relations(alloc: Global, operator: &str) -> Result<(Values, Values), AllocErr
     }
 }
 
+/// The sets of a family: each number below a thousand with those up to its double.
+fn family(alloc: Global) -> Result<Values, AllocError> {
+    let mut sets = Values::new(alloc);
+    for number in 0..1000_u32 {
+        let from = i64::from(number);
+        sets.push(Value::set(integers(alloc, from, from + from)?))?;
+    }
+    Ok(sets)
+}
+
 fn result_of(alloc: Global, operator: &str) -> Result<Values, AllocError> {
     if operator == "values" {
         return all_sets(alloc);
+    }
+    if operator == "family" {
+        return union_all(alloc, family(alloc)?.as_slice());
     }
     let (left, right) = relations(alloc, operator)?;
     if !is_ascending(left.as_slice()) || !is_ascending(right.as_slice()) {

@@ -1,27 +1,13 @@
 -- What is due after a part of a run. No public clause names this.
-use Rattle.std.specs.Prelude.{◌≡◌, ◌⊎◌, ⊤, ℕ, true, List, Option, Some, None, Result, Ok, Err}
+use Rattle.std.specs.Prelude.{◌≡◌, ◌⊎◌, ⊤, ℕ, List, Option, Result, Ok, Err}
 use Rattle.std.specs.Io.KnownBytes.{Appends}
 use Rattle.cbc_outside.specs.Outside.{Files, Rose, AppendsFront}
-use Rattle.cbc_top.specs.declared.status.Status.{Status}
-use Rattle.cbc_top.specs.declared.status.Status.TheVariants.{Refused, WriteFault}
+use Rattle.cbc_answers.specs.declared.status.Status.{Status}
+use Rattle.cbc_answers.specs.declared.status.Status.TheVariants.{Refused, WriteFault}
 use Rattle.cbc_top.specs.declared.stop.Stop.{Stop}
 use Rattle.cbc_top.specs.declared.stop.Stop.TheVariants as stop
-use Rattle.linear_models.specs.declared.syntax.LinearModel.{LinearModel}
-use Rattle.linear_models.specs.Language.{is_well_formed}
-use Rattle.cbc_top.specs.Texts.{RefusesText}
 use Rattle.cbc_top.specs.Opening.{HasRead, HasFailed}
-use Rattle.cbc_top.specs.Run.{refusal_text}
-
--- the model keeps the conditions of the language, where there is one
-abbrev pub IsReadable : Option LinearModel → Type 0
-IsReadable None = ⊤
-IsReadable (Some t) = is_well_formed t ≡ true
-
--- why a text ends a run
-abbrev pub StopsText : List ℕ → Stop → Type 0
-StopsText text (stop.Refused refusal) = RefusesText text refusal
-StopsText text stop.ReadFault = ⊥
-StopsText text stop.Memory = ⊤
+use Rattle.cbc_answers.specs.Refusals.{refusal_text}
 
 -- These files were read, and no other, and the contents have P.
 abbrev pub Reads : (List (List ℕ) → List ℕ → Type 0) → Option Files → List (List ℕ) → List (List ℕ) → (List (List ℕ) → Type 0) → Type 0

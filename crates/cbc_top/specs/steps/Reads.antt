@@ -3,12 +3,12 @@ use Rattle.std.specs.Prelude.{◌≡◌, ◌⊎◌, ℕ, ◌≤◌, ◌<◌, ◌
 use Rattle.cbc_outside.specs.Outside.{Files, IsWhole, Rose}
 use Rattle.cbc_outside.specs.declared.streams.ReadStop.{ReadStop}
 use Rattle.cbc_outside.specs.declared.streams.ReadStop.TheVariants as reading
-use Rattle.cbc_top.specs.declared.refusal.Refusal.{Refusal}
-use Rattle.cbc_top.specs.declared.refusal.Refusal.TheVariants.{TooLong, NotYet}
+use Rattle.cbc_answers.specs.declared.refusal.Refusal.{Refusal}
+use Rattle.cbc_answers.specs.declared.refusal.Refusal.TheVariants.{TooLong, NotYet}
 use Rattle.cbc_top.specs.declared.stop.Stop.{Stop}
 use Rattle.cbc_top.specs.declared.stop.Stop.TheVariants as stop
 use Rattle.linear_models.specs.declared.syntax.LinearModel.{LinearModel}
-use Rattle.cbc_top.specs.Texts.{IsText, RefusesText}
+use Rattle.cbc_answers.specs.Texts.{IsText, RefusesText}
 use Rattle.cbc_top.specs.ModelFiles.{joined, IsNextOf, AreAll, AreTooLong}
 use Rattle.cbc_top.specs.Opening.{HasRead, HasFailed}
 

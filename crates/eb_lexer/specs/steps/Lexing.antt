@@ -1,15 +1,15 @@
 -- Lexing as it is run: what stands at the front of a text, with its number of characters.
-use Rattle.std.specs.Prelude.{ℕ, ◌+◌, ◌&&◌, ◌==◌, nat_le, if◌then◌else◌, List, [], ◌∷◌, take, drop, length, take_while, Option, Some, None, ℤ, pos}
+use Rattle.std.specs.Prelude.{ℕ, zero, suc, ◌+◌, ◌&&◌, ◌==◌, nat_le, if◌then◌else◌, List, [], ◌∷◌, take, drop, length, take_while, Option, Some, None, ℤ, pos}
 use Rattle.std.specs.Option.{option_map}
 use Rattle.std.specs.Char.{is_whitespace}
 use Rattle.std.specs.Str.{encode_utf8_all}
-use Rattle.eb_lexer.specs.declared.token.Sign.{Sign}
+use Rattle.eb_signs.specs.declared.sign.Sign.{Sign}
 use Rattle.eb_lexer.specs.declared.token.TokenKind.{TokenKind}
 use Rattle.eb_lexer.specs.declared.token.TokenKind.TheVariants as kind
 use Rattle.eb_lexer.specs.declared.pieces.Next.{Next}
 use Rattle.eb_lexer.specs.declared.pieces.Next.TheVariants as next_of
 use Rattle.eb_lexer.specs.Tokens.{starts_word, continues_word, continues_label, is_digit, number_on, is_in_line, begins_close}
-use Rattle.eb_lexer.specs.steps.SignTables.{sign_in, one_signs, twos, threes, fours, fives, words}
+use Rattle.eb_signs.specs.Signs.{reserved, symbol}
 
 -- what stands at the front: nothing, nothing known, white space or a comment, or a token
 pub data Step : Type 0 where
@@ -29,40 +29,14 @@ abbrev pub level : ℕ → Option Sign → Option (Sign × ℕ) → Option (Sign
 level n (Some s) other = Some (s, n)
 level n None other = other
 
-unfoldable pub up_to_one : List ℕ → Option (Sign × ℕ)
-up_to_one [] = None
-up_to_one (a ∷ rest) = level 1 (sign_in (a ∷ []) one_signs) None
-
-unfoldable pub up_to_two : List ℕ → Option (Sign × ℕ)
-up_to_two [] = up_to_one []
-up_to_two (a ∷ []) = up_to_one (a ∷ [])
-up_to_two (a ∷ b ∷ rest) = level 2 (sign_in (a ∷ b ∷ []) twos) (up_to_one (a ∷ b ∷ rest))
-
-unfoldable pub up_to_three : List ℕ → Option (Sign × ℕ)
-up_to_three [] = up_to_two []
-up_to_three (a ∷ []) = up_to_two (a ∷ [])
-up_to_three (a ∷ b ∷ []) = up_to_two (a ∷ b ∷ [])
-up_to_three (a ∷ b ∷ c ∷ rest) = level 3 (sign_in (a ∷ b ∷ c ∷ []) threes) (up_to_two (a ∷ b ∷ c ∷ rest))
-
-unfoldable pub up_to_four : List ℕ → Option (Sign × ℕ)
-up_to_four [] = up_to_three []
-up_to_four (a ∷ []) = up_to_three (a ∷ [])
-up_to_four (a ∷ b ∷ []) = up_to_three (a ∷ b ∷ [])
-up_to_four (a ∷ b ∷ c ∷ []) = up_to_three (a ∷ b ∷ c ∷ [])
-up_to_four (a ∷ b ∷ c ∷ d ∷ rest) = level 4 (sign_in (a ∷ b ∷ c ∷ d ∷ []) fours) (up_to_three (a ∷ b ∷ c ∷ d ∷ rest))
+-- the longest sign of at most so many characters at the front that is no word
+abbrev pub sign_up_to : ℕ → List ℕ → Option (Sign × ℕ)
+sign_up_to zero text = None
+sign_up_to (suc n) text = if nat_le (suc n) (length text) then level (suc n) (symbol (take (suc n) text)) (sign_up_to n text) else sign_up_to n text
 
 -- the longest sign at the front that is no word
 unfoldable pub sign_at : List ℕ → Option (Sign × ℕ)
-sign_at [] = up_to_four []
-sign_at (a ∷ []) = up_to_four (a ∷ [])
-sign_at (a ∷ b ∷ []) = up_to_four (a ∷ b ∷ [])
-sign_at (a ∷ b ∷ c ∷ []) = up_to_four (a ∷ b ∷ c ∷ [])
-sign_at (a ∷ b ∷ c ∷ d ∷ []) = up_to_four (a ∷ b ∷ c ∷ d ∷ [])
-sign_at (a ∷ b ∷ c ∷ d ∷ e ∷ rest) = level 5 (sign_in (a ∷ b ∷ c ∷ d ∷ e ∷ []) fives) (up_to_four (a ∷ b ∷ c ∷ d ∷ e ∷ rest))
-
--- the reserved word with these bytes
-unfoldable pub reserved : List ℕ → Option Sign
-reserved bytes = sign_in bytes words
+sign_at text = sign_up_to 5 text
 
 -- a word, its length, what follows it, and the sign that it is
 abbrev pub word_step : List ℕ → ℕ → List ℕ → Option Sign → TokenKind × ℕ

@@ -11,7 +11,8 @@ use Rattle.eb_lower.specs.declared.facts.Facts.{Facts}
 use Rattle.eb_lower.specs.declared.known.Reach.{Reach}
 use Rattle.eb_lower.specs.declared.fault.NameFault.{NameFault}
 use Rattle.eb_lower.specs.declared.fault.NameFault.TheVariants as fault
-use Rattle.eb_lower.specs.Usages.{Usage, Position, at_context, at_size, in_axiom, in_invariant, in_event, at_assigned, at_changed, IsKnown, use_text}
+use Rattle.eb_declared.specs.Parts.{Position, at_context, at_size, in_axiom, in_invariant, in_event, at_assigned, at_changed, Part, declares, uses, formula}
+use Rattle.eb_lower.specs.Usages.{Usage, IsKnown, use_text}
 use Rattle.eb_lower.specs.steps.Facts.{AreFacts}
 
 abbrev pub Tells : Bool → Type 0 → Type 0
@@ -46,6 +47,11 @@ IsPlaced us in_invariant = ⊤
 IsPlaced us (in_event e after) = ⊤
 IsPlaced us at_assigned = ⊤
 IsPlaced us (at_changed e) = ⊤
+
+abbrev pub IsPlacedPart : List EbUnit → Part → Type 0
+IsPlacedPart us (declares s x) = ⊤
+IsPlacedPart us (uses p x) = IsPlaced us p
+IsPlacedPart us (formula p a) = IsPlaced us p
 
 abbrev pub ArePlaced : List EbUnit → List Usage → Type 0
 ArePlaced us found = AllByRecursion (λ u. IsPlaced us u.position) found

@@ -1,7 +1,7 @@
 -- Reading by one table of levels. This is how the code goes on, step by step; what it reads is said by Grammar.
 use Rattle.std.specs.Prelude.{ℕ, zero, suc, ◌+◌, ◌-◌, max, Bool, true, false, not, ◌&&◌, if◌then◌else◌, ◌==◌, nat_le, nat_lt, ◌≡◌, List, [], ◌∷◌, length, Option, Some, None, Result, Ok, Err}
-use Rattle.eb_lexer.specs.declared.token.Sign.{Sign}
-use Rattle.eb_lexer.specs.declared.token.Sign.TheVariants as s
+use Rattle.eb_signs.specs.declared.sign.Sign.{Sign}
+use Rattle.eb_signs.specs.declared.sign.Sign.TheVariants as s
 use Rattle.eb_lexer.specs.declared.token.Token.{Token}
 use Rattle.eb_lexer.specs.declared.token.TokenKind.{TokenKind}
 use Rattle.eb_lexer.specs.declared.token.TokenKind.TheVariants as kind
@@ -28,10 +28,10 @@ use Rattle.eb_parser.specs.declared.table.Start.{Start}
 use Rattle.eb_parser.specs.declared.table.Start.TheVariants as start
 use Rattle.eb_parser.specs.declared.table.Follow.{Follow}
 use Rattle.eb_parser.specs.declared.table.Follow.TheVariants as follow
-use Rattle.eb_parser.specs.Levels as level
-use Rattle.eb_parser.specs.Levels.{is_pred}
+use Rattle.eb_signs.specs.Levels as level
+use Rattle.eb_signs.specs.Levels.{is_pred, group_of, level_of, admits, right_of, takes, constant_level, prefix_level, prefix_takes, call_level, call_takes}
 use Rattle.eb_parser.specs.Signs.{is_sign, closing_sign}
-use Rattle.eb_parser.specs.Grammar.{group_of, level_of, admits, right_of, takes, constant_level, prefix_level, prefix_takes, call_level, call_takes, leaf, prefixed, called, bracketed, inverted, joined, quantified, bound_by, comprehended, built, empty_braces, extended, partitioned, bound_at}
+use Rattle.eb_parser.specs.Grammar.{leaf, prefixed, called, bracketed, inverted, joined, quantified, bound_by, comprehended, built, empty_braces, extended, partitioned, bound_at}
 use Rattle.eb_parser.specs.steps.Tables.{start_of, head_follow, row_of}
 
 infixl 10 ◌>>=◌
@@ -139,6 +139,14 @@ binding _ ts = names (length ts) ts >>= λ x. Ok (bound.Identifiers x.0, x.1)
 
 unfoldable pub leaf_at : ℕ → Part → List Token → Reading
 leaf_at k p ts = if nat_le k p.level then Ok (p, ts) else Err Syntax
+
+-- the tokens behind the sign that is to follow, where that holds which is asked of the formula before it
+unfoldable pub behind : Bool → Option Sign → List Token → Result (List Token) Fault
+behind holds sign ts = if holds then after_closing sign ts else Err Syntax
+
+-- the formula and those tokens
+unfoldable pub closed : Bool → Option Sign → Part → List Token → Reading
+closed holds sign p ts = behind holds sign ts >>= λ us. Ok (p, us)
 
 unfoldable pub prefix_at : Reader → ℕ → Token → Prefix → List Token → Reading
 prefix_at inner k t op ts = if nat_le k (prefix_level op) then

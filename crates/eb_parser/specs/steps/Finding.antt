@@ -1,7 +1,7 @@
 -- The formula that the reader finds at the front of tokens. No definition rests on it: it serves proofs of readers that read more
 -- than formulas, and `FrontLaws` says what it answers.
 use Rattle.std.specs.Prelude.{◌≡◌, ℕ, ◌<◌, ◌≤◌, if◌then◌else◌, List, ◌∷◌, length, drop, Result, Ok, Err, ⊤}
-use Rattle.eb_lexer.specs.declared.token.Sign.TheVariants as s
+use Rattle.eb_signs.specs.declared.sign.Sign.TheVariants as s
 use Rattle.eb_lexer.specs.declared.token.Token.{Token}
 use Rattle.eb_lexer.specs.declared.token.TokenKind.TheVariants as kind
 use Rattle.eb_syntax.specs.declared.ast.Ast.{Ast}

@@ -1,7 +1,7 @@
 -- What a sign begins, and how it goes on with a formula before it, as the reader tells them apart.
 use Rattle.std.specs.Prelude.{List, [], ◌∷◌, Option, Some, None}
-use Rattle.eb_lexer.specs.declared.token.Sign.{Sign}
-use Rattle.eb_lexer.specs.declared.token.Sign.TheVariants as s
+use Rattle.eb_signs.specs.declared.sign.Sign.{Sign}
+use Rattle.eb_signs.specs.declared.sign.Sign.TheVariants as s
 use Rattle.eb_lexer.specs.declared.token.Token.{Token}
 use Rattle.eb_lexer.specs.declared.token.TokenKind.{TokenKind}
 use Rattle.eb_lexer.specs.declared.token.TokenKind.TheVariants as kind
@@ -11,13 +11,13 @@ use Rattle.eb_syntax.specs.declared.ast.Call.TheVariants as call
 use Rattle.eb_syntax.specs.declared.ast.Operator.TheVariants as op
 use Rattle.eb_syntax.specs.declared.ast.Quantifier.TheVariants as quantifier
 use Rattle.eb_syntax.specs.declared.ast.Binder.TheVariants as binder
-use Rattle.eb_parser.specs.declared.table.Group.{Group}
-use Rattle.eb_parser.specs.declared.table.Group.TheVariants as g
+use Rattle.eb_signs.specs.declared.levels.Group.{Group}
+use Rattle.eb_signs.specs.declared.levels.Group.TheVariants as g
 use Rattle.eb_parser.specs.declared.table.Start.{Start}
 use Rattle.eb_parser.specs.declared.table.Start.TheVariants as start
 use Rattle.eb_parser.specs.declared.table.Follow.{Follow}
 use Rattle.eb_parser.specs.declared.table.Follow.TheVariants as follow
-use Rattle.eb_parser.specs.Grammar.{group_of}
+use Rattle.eb_signs.specs.Levels.{group_of}
 
 abbrev pub start_of : Sign → Start
 start_of s.Truth = start.Constant constant.Truth

@@ -1,6 +1,6 @@
 -- The steps by which the code goes over relations. They are a means of proof: the contracts of the
 -- operators say what their results are.
-use Rattle.std.specs.Prelude.{◌≡◌, Bool, true, false, not, ◌&&◌, ◌||◌, if◌then◌else◌, filter, List, [], ◌∷◌, Option, Some, None}
+use Rattle.std.specs.Prelude.{◌≡◌, Bool, true, false, not, ◌&&◌, if◌then◌else◌, filter, List, [], ◌∷◌, Option, Some, None}
 use Rattle.std.specs.List.{Contains, filter_map, flat_map}
 use Rattle.std.specs.Ordering.{is_eq}
 use Rattle.std.specs.declared.cmp.Ordering.{Ordering}
@@ -12,12 +12,9 @@ use Rattle.eb_value.specs.declared.relations.Part.TheVariants as part
 use Rattle.eb_value.specs.declared.products.Join.{Join}
 use Rattle.eb_value.specs.declared.products.Join.TheVariants as join
 use Rattle.eb_value.specs.Relations.{Relates}
+use Rattle.eb_value.specs.Comprehensions.{has}
 use Rattle.eb_value.specs.Values.{Layer, layer, compare, pair}
 use Rattle.eb_value.specs.steps.Merges.{first_of, second_of, same_key}
-
-abbrev pub has : List Value → Value → Bool
-has [] v = false
-has (x ∷ xs) v = is_eq (compare x v) || has xs v
 
 abbrev pub tests : Bool → List Value → Option Value → Bool
 tests keep s None = false

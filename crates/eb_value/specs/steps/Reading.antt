@@ -66,14 +66,26 @@ atom_at names sizes place s = do
   b ← after (codes "#") a
   if nat_le (digits_at 0 b).0 (size_of sizes place) then Some (atom place (digits_at 0 b).0, (digits_at 0 b).1) else None
 
-abbrev pub pair_at : (List ℕ → Reading) → (List ℕ → Reading) → List ℕ → Reading
-pair_at f g s = do
+-- a value behind `(` and before `|->`
+abbrev pub opened_at : (List ℕ → Reading) → List ℕ → Reading
+opened_at f s = do
   a ← after (codes "(") s
   x ← f a
   b ← after (codes "|->") x.1
-  y ← g b
+  Some (x.0, b)
+
+-- a value before `)`
+abbrev pub closed_at : (List ℕ → Reading) → List ℕ → Reading
+closed_at g s = do
+  y ← g s
   c ← after (codes ")") y.1
-  Some (pair x.0 y.0, c)
+  Some (y.0, c)
+
+abbrev pub pair_at : (List ℕ → Reading) → (List ℕ → Reading) → List ℕ → Reading
+pair_at f g s = do
+  x ← opened_at f s
+  y ← closed_at g x.1
+  Some (pair x.0 y.0, y.1)
 
 -- behind a member, whether the set goes on, and the text behind the comma or the brace
 abbrev pub behind : List ℕ → Option (Bool × List ℕ)

@@ -1,7 +1,7 @@
 use Rattle.std.proofs.Common.{rules, subst, ℕ, List, Option, Err}
 use Rattle.cbc_outside.specs.Outside.{Files}
 use Rattle.cbc_top.specs.steps.Reads.{ReadsModel, ReadsTree}
-use Rattle.cbc_top.specs.Answers.{IsJudged}
+use Rattle.cbc_answers.specs.Answers.{IsJudged}
 use Rattle.cbc_top.proofs.Runs.{check_stops, nothing_to_judge, tree_stops, check_breaks, judges}
 use Rattle.cbc_top.proofs.top.due_at_check.Goals as goal
 

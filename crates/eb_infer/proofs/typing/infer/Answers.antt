@@ -1,6 +1,6 @@
 use Rattle.std.proofs.Common.{rules, subst}
 use Rattle.type_equations.specs.Equations.{IsOnlySolution, HaveNone, HaveSeveral}
-use Rattle.eb_infer.proofs.Equations.{only_typing, no_typing, several_typings}
+use Rattle.eb_infer.proofs.TypingLaws.{only_typing, no_typing, several_typings}
 use Rattle.eb_infer.proofs.typing.infer.Goals as goal
 
 pub returns-in-Ok-clause-typed : goal.returns-in-Ok-clause-typed

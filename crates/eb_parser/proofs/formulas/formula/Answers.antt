@@ -6,7 +6,6 @@ use Rattle.eb_parser.specs.steps.Climbing.{read}
 use Rattle.eb_parser.proofs.Equations.{fails_at}
 use Rattle.eb_parser.proofs.FormulaLaws.{at, same_read, no_formula, wrong_kind, found_means, high_means, deep_means, same_answer, ok_deep}
 use Rattle.eb_parser.proofs.FrontLaws.{fails_front, wrong_front, found_front}
-use Rattle.eb_parser.specs.steps.Finding.{formula_at}
 use Rattle.eb_parser.proofs.formulas.formula.Goals as goal
 
 pub returns-then-not-fits-clause-cause : goal.returns-then-not-fits-clause-cause
@@ -36,7 +35,8 @@ returns-else-not-fits-clause-found c =
     let e : at c.args.kind c.args.tokens.now c.args.from ≡ Ok (c.in-Ok.part, c.in-Ok.rest.now) = same_read _ _ _ _ _ c.least_of.ensures ts c.in-Ok.ensures.exact in
     let n : fits c.args.kind c.in-Ok.part.level ≡ true = search rules in
     let end : c.count_before.result ≡ length c.args.tokens.now - length c.in-Ok.rest.now = c.count_before.ensures ∙ ap (λ z. length z - length c.in-Ok.rest.now) c.as_slice-tokens.ensures in
-    rw end (found_means c.args.kind c.args.tokens.now c.in-Ok.rest.now c.args.from c.in-Ok.part e n)
+    let inner : c.into_inner.result ≡ c.in-Ok.part.tree = c.into_inner.ensures in
+    rw (inner, end) (found_means c.args.kind c.args.tokens.now c.in-Ok.rest.now c.args.from c.in-Ok.part e n)
 
 pub returns-else-not-fits-clause-high : goal.returns-else-not-fits-clause-high
 returns-else-not-fits-clause-high c =
@@ -49,9 +49,10 @@ returns-else-not-fits-clause-complete c =
     let ts : c.tokens_from.result.now ≡ drop c.args.from c.args.tokens.now = c.tokens_from.ensures ∙ ap (drop c.args.from) c.as_slice-tokens.ensures in
     let e : at c.args.kind c.args.tokens.now c.args.from ≡ Ok (c.in-Ok.part, c.in-Ok.rest.now) = same_read _ _ _ _ _ c.least_of.ensures ts c.in-Ok.ensures.exact in
     let count : c.count_before.result ≡ length c.args.tokens.now - length c.in-Ok.rest.now = c.count_before.ensures ∙ ap (λ z. length z - length c.in-Ok.rest.now) c.as_slice-tokens.ensures in
+    let inner : c.into_inner.result ≡ c.in-Ok.part.tree = c.into_inner.ensures in
     λ end a h l i o.
     let w = same_answer c.args.kind c.args.tokens.now c.in-Ok.rest.now c.args.from end c.in-Ok.part a h e l.stands i o in
-    inl (rw (w.0, count, w.1) refl)
+    inl (rw (inner, w.0, count, w.1) refl)
 
 pub returns-in-Err-Fault-Syntax-clause-cause : goal.returns-in-Err-Fault-Syntax-clause-cause
 returns-in-Err-Fault-Syntax-clause-cause c =
@@ -106,7 +107,8 @@ returns-else-not-fits-clause-exact c =
     let e : at c.args.kind c.args.tokens.now c.args.from ≡ Ok (c.in-Ok.part, c.in-Ok.rest.now) = same_read _ _ _ _ _ c.least_of.ensures ts c.in-Ok.ensures.exact in
     let n : fits c.args.kind c.in-Ok.part.level ≡ true = search rules in
     let end : c.count_before.result ≡ length c.args.tokens.now - length c.in-Ok.rest.now = c.count_before.ensures ∙ ap (λ z. length z - length c.in-Ok.rest.now) c.as_slice-tokens.ensures in
-    rw end (found_front c.args.kind c.args.tokens.now c.in-Ok.rest.now c.args.from c.in-Ok.part e n)
+    let inner : c.into_inner.result ≡ c.in-Ok.part.tree = c.into_inner.ensures in
+    rw (inner, end) (found_front c.args.kind c.args.tokens.now c.in-Ok.rest.now c.args.from c.in-Ok.part e n)
 
 pub returns-in-Err-Fault-Syntax-clause-exact : goal.returns-in-Err-Fault-Syntax-clause-exact
 returns-in-Err-Fault-Syntax-clause-exact c =

@@ -1,7 +1,7 @@
 use Rattle.std.proofs.Common.{◌≡◌, ◌<◌, ◌-◌, ◌+◌, ◌∙◌, length, max, true, [], ◌∷◌, ◌++◌, Some, None, Ok, sym, subst, ap, arith, rules}
 use Rattle.std.proofs.lemmas.Result.{err_from_is_err_and}
-use Rattle.eb_lexer.specs.declared.token.Sign.TheVariants as s
-use Rattle.eb_parser.specs.Levels as level
+use Rattle.eb_signs.specs.declared.sign.Sign.TheVariants as s
+use Rattle.eb_signs.specs.Levels as level
 use Rattle.eb_parser.specs.steps.Tables.{head_follow}
 use Rattle.eb_parser.specs.steps.Climbing.{Fails, read, begins, after_first, next_follow, turn, tried}
 use Rattle.eb_parser.proofs.Equations.{row_start, row_turn, row_none, row_fails, climb_on, climb_off, climb_stops, climb_full, climb_last, climb_fails}

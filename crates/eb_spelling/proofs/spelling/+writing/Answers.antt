@@ -1,5 +1,5 @@
 use Rattle.std.proofs.Common.{◌≡◌, ◌∙◌, ◌-◌, ◌++◌, ◌∷◌, take, drop, length, map, sym, ap, rules}
-use Rattle.eb_lexer.specs.declared.token.Sign.TheVariants as signs
+use Rattle.eb_signs.specs.declared.sign.Sign.TheVariants as signs
 use Rattle.eb_spelling.specs.Spelling.{sign, kinds_of, row_kinds}
 use Rattle.eb_spelling.proofs.SpellingSteps.{first_others, others_done, flat_mapped}
 use Rattle.eb_spelling.proofs.spelling.+writing.Goals as goal

@@ -1,6 +1,6 @@
 use Rattle.std.proofs.Common.{◌≡◌, ◌++◌, ◌∷◌, take}
 use Rattle.std.specs.List.{flat_map}
-use Rattle.eb_lexer.specs.declared.token.Sign.TheVariants as signs
+use Rattle.eb_signs.specs.declared.sign.Sign.TheVariants as signs
 use Rattle.eb_spelling.specs.Spelling.{sign, kinds_of}
 use Rattle.eb_spelling.proofs.spelling.+writing.Given as goal
 

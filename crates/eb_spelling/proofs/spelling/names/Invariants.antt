@@ -1,7 +1,7 @@
 use Rattle.std.proofs.Common.{◌≡◌, ◌++◌, [], ◌∷◌, take}
 use Rattle.std.specs.List.{flat_map}
 use Rattle.eb_lexer.specs.declared.token.TokenKind.TheVariants as kind
-use Rattle.eb_lexer.specs.declared.token.Sign.TheVariants as signs
+use Rattle.eb_signs.specs.declared.sign.Sign.TheVariants as signs
 use Rattle.eb_spelling.specs.Spelling.{sign}
 use Rattle.eb_spelling.proofs.spelling.names.Given as goal
 

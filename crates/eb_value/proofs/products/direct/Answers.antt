@@ -1,3 +1,6 @@
+use Rattle.eb_value.specs.Relations
+use Rattle.eb_value.specs.Comprehensions as set
+use Rattle.eb_value.proofs.ComprehensionLaws.{one_set, direct_is}
 use Rattle.std.proofs.Common.{◌≡◌, subst, rules}
 use Rattle.std.specs.List.{Contains}
 use Rattle.eb_value.specs.Sets.{IsSetOf}
@@ -6,7 +9,10 @@ use Rattle.eb_value.specs.declared.products.Join.TheVariants as join
 use Rattle.eb_value.proofs.ProductLaws.{direct_set}
 use Rattle.eb_value.proofs.products.direct.Goals as goal
 
-pub returns : goal.returns
-returns c =
+pub returns-clause-is_set : goal.returns-clause-is_set
+returns-clause-is_set c =
     let made : c.in_ok-joins.field-0.items ≡ Joins.joins join.Direct c.args.r.now c.args.s.now = search rules in
-    direct_set c.args.r.now c.args.s.now c.set_of.result (subst (λ xs. IsSetOf (Contains xs) c.set_of.result) made c.set_of.ensures)
+    direct_set c.args.r.now c.args.s.now c.set_of.result (subst (λ xs. IsSetOf (Contains xs) c.set_of.result) made c.set_of.ensures.is_set)
+
+pub returns-clause-equals : goal.returns-clause-equals
+returns-clause-equals c = one_set (Relations.InDirect c.args.r.now c.args.s.now) c.set_of.result (set.direct c.args.r.now c.args.s.now) (returns-clause-is_set c) (direct_is c.args.r.now c.args.s.now)

@@ -1,7 +1,7 @@
 use Rattle.std.proofs.Common.{◌≡◌, ◌∙◌, ◌+◌, ◌++◌, ◌∷◌, [], Some, None, true, false, drop, ap, sym}
 use Rattle.std.proofs.lemmas.Result.{err_from_is_err_and}
 use Rattle.eb_value.specs.steps.Reading as spec
-use Rattle.eb_value.specs.Values.{set}
+use Rattle.eb_value.specs.Values as value
 use Rattle.eb_value.proofs.ReadingSteps.{member_fails, member_then}
 use Rattle.eb_value.proofs.read.+reading.Goals as goal
 
@@ -25,7 +25,7 @@ members_at-returns-then-not-goes_on t c =
     let ended : spec.behind c.in_ok-member.next.now ≡ Some (false, c.in-Some.next.now) = sym c.in-Some.ensures ∙ ap (λ b. Some (b, c.in-Some.next.now)) c.if-not-goes_on.true in
     let pushed : c.push.new.self ≡ c.members.members ++ c.in_ok-member.member ∷ [] = c.in_ok-push.ensures.ok in
     member_then f c.args.text.now c.members._byte-index c.members.members c.members.rest.now whole c.members.invariant c.members-test.true c.in_ok-member.member c.in_ok-member.next.now c.in_ok-member.ensures (Some (false, c.in-Some.next.now)) ended
-    ∙ ap (λ m. Some (m, c.in-Some.next.now)) (ap set (sym pushed) ∙ sym c.made_set.ensures)
+    ∙ ap (λ m. Some (m, c.in-Some.next.now)) (ap value.set (sym pushed) ∙ sym c.set.ensures)
 
 pub members_at-members-preserved : goal.members_at-members-preserved
 members_at-members-preserved t c =

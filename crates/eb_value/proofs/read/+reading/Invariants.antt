@@ -5,6 +5,12 @@ use Rattle.eb_value.proofs.read.+reading.Given as goal
 abbrev pub decreases-value_at : goal.decreases-value_at
 decreases-value_at l = 2 * goal.size-value_at l
 
+abbrev pub decreases-opened_at : goal.decreases-opened_at
+decreases-opened_at l = 2 * goal.size-opened_at l + 1
+
+abbrev pub decreases-closed_at : goal.decreases-closed_at
+decreases-closed_at l = 2 * goal.size-closed_at l + 1
+
 abbrev pub decreases-members_at : goal.decreases-members_at
 decreases-members_at l = 2 * goal.size-members_at l + 1
 

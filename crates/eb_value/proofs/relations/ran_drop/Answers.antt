@@ -1,3 +1,5 @@
+use Rattle.eb_value.specs.Comprehensions as set
+use Rattle.eb_value.proofs.ComprehensionLaws.{equals_from, ran_drop_is}
 use Rattle.std.proofs.Common.{◌∙◌, filter, ap, sym, subst}
 use Rattle.std.proofs.lemmas.Result.{IfOk-weaker}
 use Rattle.eb_value.specs.Sets.{IsSetOf}
@@ -5,7 +7,10 @@ use Rattle.eb_value.specs.Relations as spec
 use Rattle.eb_value.proofs.RelationLaws.{ran_drop_set}
 use Rattle.eb_value.proofs.relations.ran_drop.Goals as goal
 
-pub returns : goal.returns
-returns c = IfOk-weaker c.kept_by_second.result _ (IsSetOf (spec.InRanDrop c.args.r.now c.args.s.now))
+pub returns-clause-is_set : goal.returns-clause-is_set
+returns-clause-is_set c = IfOk-weaker c.kept_by_second.result _ (IsSetOf (spec.InRanDrop c.args.r.now c.args.s.now))
     (λ all e. subst (IsSetOf (spec.InRanDrop c.args.r.now c.args.s.now)) (sym (e ∙ ap (filter _) c.as_slice.ensures)) (ran_drop_set c.args.r.now c.args.s.now c.requires.relation))
     c.kept_by_second.ensures
+
+pub returns-clause-equals : goal.returns-clause-equals
+returns-clause-equals c = equals_from (spec.InRanDrop c.args.r.now c.args.s.now) c.kept_by_second.result (set.ran_drop c.args.r.now c.args.s.now) (ran_drop_is c.args.r.now c.args.s.now) (returns-clause-is_set c)

@@ -1,3 +1,6 @@
+use Rattle.eb_value.specs.Relations
+use Rattle.eb_value.specs.Comprehensions as set
+use Rattle.eb_value.proofs.ComprehensionLaws.{one_set, range_is}
 use Rattle.std.proofs.Common.{◌≡◌, subst, rules}
 use Rattle.std.specs.List.{Contains, filter_map}
 use Rattle.eb_value.specs.Sets.{IsSetOf}
@@ -6,7 +9,10 @@ use Rattle.eb_value.specs.declared.relations.Part.TheVariants as part
 use Rattle.eb_value.proofs.RelationLaws.{range_set}
 use Rattle.eb_value.proofs.relations.range.Goals as goal
 
-pub returns : goal.returns
-returns c =
+pub returns-clause-is_set : goal.returns-clause-is_set
+returns-clause-is_set c =
     let taken : c.in_ok-parts.field-0.items ≡ filter_map (Joins.part_of part.Second) c.args.r.now = search rules in
-    range_set c.args.r.now c.set_of.result (subst (λ xs. IsSetOf (Contains xs) c.set_of.result) taken c.set_of.ensures)
+    range_set c.args.r.now c.set_of.result (subst (λ xs. IsSetOf (Contains xs) c.set_of.result) taken c.set_of.ensures.is_set)
+
+pub returns-clause-equals : goal.returns-clause-equals
+returns-clause-equals c = one_set (Relations.InRange c.args.r.now) c.set_of.result (set.range c.args.r.now) (returns-clause-is_set c) (range_is c.args.r.now)

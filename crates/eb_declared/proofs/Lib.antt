@@ -1,0 +1,5 @@
+mod ListLaws
+mod FormulaLaws
+mod KeyLaws
+mod RepeatLaws
+mod UnitLaws

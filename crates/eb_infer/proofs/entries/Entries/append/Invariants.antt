@@ -1,6 +1,0 @@
-use Rattle.std.proofs.Common.{◌≡◌, ◌++◌, take}
-use Rattle.eb_infer.specs.steps.Layers.{entries_of}
-use Rattle.eb_infer.proofs.entries.Entries.append.Given as goal
-
-abbrev pub invariant-loop-layer : goal.invariant-loop-layer
-invariant-loop-layer l = l.self ≡ l.initial.self ++ entries_of (take l.layer-index l.layers)

@@ -1,7 +1,0 @@
-use Rattle.std.proofs.Common.{◌≡◌, take}
-use Rattle.std.specs.Prelude.{fold}
-use Rattle.eb_infer.specs.steps.Generating as spec
-use Rattle.eb_infer.proofs.generated.Generated.all.Given as goal
-
-abbrev pub invariant-loop-found : goal.invariant-loop-found
-invariant-loop-found l = l.self ≡ fold (λ h f. spec.fit l.letters l.part f h) l.initial.self (take l.found-index l.parts)

@@ -1,6 +1,0 @@
-use Rattle.std.proofs.Common.{◌≡◌, take}
-use Rattle.eb_infer.specs.Numbering as spec
-use Rattle.eb_infer.proofs.names.Names.bind_all.Given as goal
-
-abbrev pub invariant-loop-identifier : goal.invariant-loop-identifier
-invariant-loop-identifier l = l.self ≡ spec.bind_all l.initial.self (take l.identifier-index l.identifiers)

@@ -1,6 +1,0 @@
-use Rattle.std.proofs.Common.{◌≤◌, take}
-use Rattle.type_equations.specs.Equations.{AreBelow}
-use Rattle.eb_infer.proofs.typing.total_of.Given as goal
-
-abbrev pub invariant-loop-equation : goal.invariant-loop-equation
-invariant-loop-equation l = (l.asked ≤ l.total) × AreBelow l.total (take l.equation-index l.equations)

@@ -1,4 +1,0 @@
--- Means of proof: no public clause names what stands here.
-pub mod Layers
-pub mod Generating
-pub mod Equating

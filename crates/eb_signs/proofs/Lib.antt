@@ -1,0 +1,3 @@
+pub mod TableLaws
+pub mod SignTexts
+pub mod Tables

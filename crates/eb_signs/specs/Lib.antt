@@ -1,0 +1,4 @@
+pub mod Signs
+pub mod Levels
+-- what only private functions cite: how the code goes on, as a means of proof
+pub mod steps

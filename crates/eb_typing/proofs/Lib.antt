@@ -1,0 +1,10 @@
+pub mod WalkLaws
+pub mod ModelLaws
+pub mod Solving
+pub mod Soundness
+pub mod Extending
+pub mod Completeness
+pub mod Marking
+pub mod Collecting
+pub mod Equations
+pub mod Bounds
