@@ -1,75 +1,118 @@
 use crate::fault::Fault;
 use crate::parts::{
-    byte_of, calls_of, number_and_text, number_of, part_of, status_of, unquoted, words_of,
+    Part, byte_of, calls_of, number_and_text, number_of, part_of, part_with, status_of, unquoted,
 };
-use crate::record::{Given, Record, Want};
-use cbc_outside::{Calls, NamedFiles};
-use eb_names::{Bytes, Name, Names};
-use std::alloc::{AllocError, Global};
+use crate::record::{Given, Kind, ROOM, Want};
+use eb_names::{Bytes, Name};
+use std::alloc::Global;
 use std::mem;
 
-/// How many bytes the sink takes where a record doesn't say it.
-const ROOM: usize = 4 << 20;
-
 /// Which text of a record its lines are.
-#[derive(Drop)]
-enum Place {
-    File(Name),
-    Prints,
-    Begins,
-    Ends,
+#[derive(Clone, Copy)]
+enum Place<'a> {
+    None,
+    File(&'a str),
+    Output(Kind),
 }
 
-/// A record of which the last lines are yet to come.
+/// The record of which the lines come now. One draft serves all records of a file.
 #[derive(Drop)]
-pub struct Draft {
-    record: Record,
-    /// Whether the words were said.
-    has_words: bool,
-    /// The outputs of which one is wanted.
-    prints: Vec<Bytes>,
-    status: Option<u8>,
+pub struct Draft<'a> {
+    alloc: Global,
+    /// How many lines of the file have come.
+    pub line: usize,
+    /// The names of the records that have begun.
+    names: Vec<&'a str>,
+    /// The name of this one, empty before the first.
+    pub name: &'a str,
+    /// What the run is given.
+    pub given: Given,
+    /// The words behind the program's name, if they were said.
+    words: Option<&'a str>,
+    /// What is wanted of the output.
+    pub wants: Vec<Want<'a>>,
+    /// The exit status that is wanted.
+    pub status: Option<u8>,
+    has_prints: bool,
+    is_judged: bool,
     /// The text that was begun last, and its bytes so far.
-    place: Option<Place>,
+    place: Place<'a>,
     text: Vec<u8>,
 }
 
-impl Draft {
-    /// A record of which nothing but the name has come.
-    pub fn new(alloc: Global, name: &str) -> Result<Draft, AllocError> {
-        let name = String::from_str(alloc, name)?;
-        Ok(Draft {
-            record: Record {
-                name,
-                given: nothing_given(alloc),
-                wants: Vec::new(alloc),
-            },
-            has_words: false,
-            prints: Vec::new(alloc),
+impl<'a> Draft<'a> {
+    /// What reads a file from its beginning.
+    pub fn new(alloc: Global) -> Draft<'a> {
+        Draft {
+            alloc,
+            line: 0,
+            names: Vec::new(alloc),
+            name: "",
+            given: Given::new(alloc),
+            words: None,
+            wants: Vec::new(alloc),
             status: None,
-            place: None,
+            has_prints: false,
+            is_judged: false,
+            place: Place::None,
             text: Vec::new(alloc),
-        })
+        }
     }
 
-    /// Takes the next line, with its line feed.
-    pub fn take(&mut self, alloc: Global, line: &str) -> Result<(), Fault> {
+    /// Begins the next record, once the one before was run.
+    pub fn begin(&mut self, name: &'a str) -> Result<(), Fault> {
+        if name.is_empty() {
+            return Err(Fault::NoName);
+        }
+        if is_among(self.names.as_slice(), name) {
+            return Err(Fault::NameTwice);
+        }
+        self.names.push(name)?;
+        self.name = name;
+        self.given.room = ROOM;
+        self.given.is_slow = false;
+        self.words = None;
+        self.wants = Vec::new(self.alloc);
+        self.status = None;
+        self.has_prints = false;
+        self.is_judged = false;
+        Ok(())
+    }
+
+    /// Takes the next line, with its line feed, if it begins no record.
+    pub fn take(&mut self, line: &'a str) -> Result<(), Fault> {
+        if !line.ends_with('\n') {
+            return Err(Fault::NoLineFeed);
+        }
+        if self.name.is_empty() {
+            return if line.starts_with('#') {
+                Ok(())
+            } else {
+                Err(Fault::NoRecord)
+            };
+        }
         match part_of(line) {
-            Some(("line", text)) => self.add_text(unquoted(text).as_bytes()),
-            Some(("repeat", rest)) => self.add_repeated(alloc, rest, ""),
-            Some(("lines", rest)) => self.add_repeated(alloc, rest, "\n"),
-            Some(("bytes", rest)) => self.add_bytes(rest),
-            Some((part, rest)) => {
-                self.end_text(alloc)?;
-                self.begin_part(alloc, part, rest)
-            }
+            Some((word, rest)) => self.take_part(part_with(word)?, rest),
             None => self.add_text(line.as_bytes()),
+        }
+    }
+
+    fn take_part(&mut self, part: Part, rest: &'a str) -> Result<(), Fault> {
+        match part {
+            Part::Line => self.add_text(unquoted(rest).as_bytes()),
+            Part::Repeat => self.add_repeated(rest, b""),
+            Part::Lines => self.add_repeated(rest, b"\n"),
+            Part::Bytes => self.add_bytes(rest),
+            _ => {
+                self.end_text()?;
+                self.begin_part(part, rest)
+            }
         }
     }
 
     /// Adds to the text.
     fn add_text(&mut self, bytes: &[u8]) -> Result<(), Fault> {
-        if self.place.is_none() {
+        if matches!(self.place, Place::None) {
             return Err(Fault::NoText);
         }
         self.text.extend_from_slice(bytes)?;
@@ -77,15 +120,12 @@ impl Draft {
     }
 
     /// Adds as many times as the line says what it says, each time with an end.
-    fn add_repeated(&mut self, alloc: Global, rest: &str, end: &str) -> Result<(), Fault> {
-        if self.place.is_none() {
-            return Err(Fault::NoText);
-        }
+    fn add_repeated(&mut self, rest: &str, end: &[u8]) -> Result<(), Fault> {
+        self.add_text(b"")?;
         let (count, text) = number_and_text(rest)?;
-        let mut piece = String::from_str(alloc, text)?;
-        piece.push_str(end)?;
         for _ in 0..count {
-            self.text.extend_from_slice(piece.as_bytes())?;
+            self.add_text(text.as_bytes())?;
+            self.add_text(end)?;
         }
         Ok(())
     }
@@ -100,174 +140,144 @@ impl Draft {
     }
 
     /// Puts the text where it belongs, if one was begun.
-    fn end_text(&mut self, alloc: Global) -> Result<(), Fault> {
-        let text = Bytes::from_vec(mem::replace(&mut self.text, Vec::new(alloc)));
-        match self.place.take() {
-            Some(Place::File(name)) => self.record.given.files.push((name, text))?,
-            Some(Place::Prints) => self.prints.push(text)?,
-            Some(Place::Begins) => self.record.wants.push(Want::Begins(text))?,
-            Some(Place::Ends) => self.record.wants.push(Want::Ends(text))?,
-            None => {}
+    fn end_text(&mut self) -> Result<(), Fault> {
+        let text = mem::replace(&mut self.text, Vec::new(self.alloc));
+        match self.place {
+            Place::File(name) => {
+                let name = Name::new(self.alloc, name)?;
+                self.given.files.push((name, Bytes::from_vec(text)))?;
+            }
+            Place::Output(kind) => self.add_want(kind, 0, "", text)?,
+            Place::None => {}
         }
+        self.place = Place::None;
+        Ok(())
+    }
+
+    fn add_want(
+        &mut self,
+        kind: Kind,
+        count: usize,
+        line: &'a str,
+        text: Vec<u8>,
+    ) -> Result<(), Fault> {
+        self.wants.push(Want {
+            kind,
+            count,
+            line,
+            text,
+        })?;
         Ok(())
     }
 
     /// Takes the line that begins a part.
-    fn begin_part(&mut self, alloc: Global, part: &str, rest: &str) -> Result<(), Fault> {
+    fn begin_part(&mut self, part: Part, rest: &'a str) -> Result<(), Fault> {
         match part {
-            "model" | "tree" | "file" | "prints" | "or" | "begins" | "ends" => {
-                self.place = Some(self.place_of(alloc, part, rest)?);
+            Part::Words | Part::Slowly | Part::Status => self.give_once(part, rest),
+            Part::Reads | Part::Writes | Part::Room => self.give(part, rest),
+            Part::Starts => self.want(Kind::Starts, 0, unquoted(rest)),
+            Part::Judged => {
+                self.is_judged = true;
+                self.want(Kind::Judged, 0, unquoted(rest))
+            }
+            Part::Has => {
+                let (count, text) = number_and_text(rest)?;
+                self.want(Kind::Has, count, text)
+            }
+            _ => {
+                self.place = self.place_of(part, rest)?;
                 Ok(())
             }
-            "starts" | "has" | "status" | "judged" => self.want(alloc, part, rest),
-            _ => self.give(alloc, part, rest),
         }
     }
 
+    /// Takes a line that says what the run is given.
+    fn give(&mut self, part: Part, rest: &str) -> Result<(), Fault> {
+        match part {
+            Part::Reads => self.given.failing_reads = calls_of(self.alloc, rest)?,
+            Part::Writes => self.given.failing_writes = calls_of(self.alloc, rest)?,
+            _ => self.given.room = number_of(rest)?,
+        }
+        Ok(())
+    }
+
+    /// Takes the words, the status, or that the run is slow. The first two are said once.
+    fn give_once(&mut self, part: Part, rest: &'a str) -> Result<(), Fault> {
+        match part {
+            Part::Words if self.words.is_none() => self.words = Some(rest),
+            Part::Status if self.status.is_none() => self.status = Some(status_of(rest)?),
+            Part::Slowly if rest.is_empty() => self.given.is_slow = true,
+            Part::Slowly => return Err(Fault::BadArgument),
+            _ => return Err(Fault::Twice),
+        }
+        Ok(())
+    }
+
+    /// Takes a line that says itself what is wanted of the output.
+    fn want(&mut self, kind: Kind, count: usize, line: &'a str) -> Result<(), Fault> {
+        if line.is_empty() {
+            return Err(Fault::BadArgument);
+        }
+        self.add_want(kind, count, line, Vec::new(self.alloc))
+    }
+
     /// The place of a text that begins with this line.
-    fn place_of(&self, alloc: Global, part: &str, rest: &str) -> Result<Place, Fault> {
-        match (part, rest) {
-            ("model", "") => self.only_file(alloc, "m"),
-            ("tree", "") => self.only_file(alloc, "t"),
-            ("file", name) => Ok(Place::File(Name::new(alloc, unquoted(name))?)),
-            ("prints", "") if self.prints.is_empty() => Ok(Place::Prints),
-            ("prints", "") => Err(Fault::Twice),
-            ("or", "") if self.prints.is_empty() => Err(Fault::NoPrints),
-            ("or", "") => Ok(Place::Prints),
-            ("begins", "") => Ok(Place::Begins),
-            ("ends", "") => Ok(Place::Ends),
-            _ => Err(Fault::BadArgument),
+    fn place_of(&mut self, part: Part, rest: &'a str) -> Result<Place<'a>, Fault> {
+        match part {
+            Part::File => Ok(Place::File(unquoted(rest))),
+            _ if !rest.is_empty() => Err(Fault::BadArgument),
+            Part::Model => self.only_file("m"),
+            Part::Tree => self.only_file("t"),
+            Part::Begins => Ok(Place::Output(Kind::Begins)),
+            Part::Ends => Ok(Place::Output(Kind::Ends)),
+            Part::Or if !self.has_prints => Err(Fault::NoPrints),
+            Part::Or => Ok(Place::Output(Kind::Or)),
+            _ if self.has_prints => Err(Fault::Twice),
+            _ => {
+                self.has_prints = true;
+                Ok(Place::Output(Kind::Prints))
+            }
         }
     }
 
     /// The place of the text of a file that stands once.
-    fn only_file(&self, alloc: Global, name: &str) -> Result<Place, Fault> {
-        if has_file(&self.record.given.files, name) {
+    fn only_file(&self, name: &'static str) -> Result<Place<'a>, Fault> {
+        if self.given.has_file(name) {
             return Err(Fault::Twice);
         }
-        Ok(Place::File(Name::new(alloc, name)?))
+        Ok(Place::File(name))
     }
 
-    /// Takes a line that says what the run is given.
-    fn give(&mut self, alloc: Global, part: &str, rest: &str) -> Result<(), Fault> {
-        let given = &mut self.record.given;
-        match part {
-            "words" => return self.give_words(alloc, rest),
-            "reads" => given.failing_reads = calls_of(alloc, rest)?,
-            "writes" => given.failing_writes = calls_of(alloc, rest)?,
-            "room" => given.room = number_of(rest)?,
-            "slowly" if rest.is_empty() => given.is_slow = true,
-            "slowly" => return Err(Fault::BadArgument),
-            _ => return Err(Fault::UnknownPart),
+    /// Ends the record, if one has begun: says whether.
+    pub fn end(&mut self) -> Result<bool, Fault> {
+        if self.name.is_empty() {
+            return Ok(false);
         }
-        Ok(())
-    }
-
-    /// Takes the words, which are said once.
-    fn give_words(&mut self, alloc: Global, rest: &str) -> Result<(), Fault> {
-        if self.has_words {
-            return Err(Fault::Twice);
-        }
-        self.has_words = true;
-        self.record.given.words = words_of(alloc, rest)?;
-        Ok(())
-    }
-
-    /// Takes a line that says what is wanted of the run.
-    fn want(&mut self, alloc: Global, part: &str, rest: &str) -> Result<(), Fault> {
-        if part == "status" {
-            return self.want_status(rest);
-        }
-        let want = want_of(alloc, part, rest)?;
-        self.record.wants.push(want)?;
-        Ok(())
-    }
-
-    fn want_status(&mut self, digit: &str) -> Result<(), Fault> {
-        if self.status.is_some() {
-            return Err(Fault::Twice);
-        }
-        self.status = Some(status_of(digit)?);
-        Ok(())
-    }
-
-    /// Wants one of the outputs, where some are said, and the status.
-    fn end_wants(&mut self, alloc: Global) -> Result<(), Fault> {
-        let Some(status) = self.status else {
+        self.end_text()?;
+        if self.status.is_none() {
             return Err(Fault::NoStatus);
-        };
-        let prints = mem::replace(&mut self.prints, Vec::new(alloc));
-        if !prints.is_empty() {
-            self.record.wants.push(Want::Prints(prints))?;
         }
-        self.record.wants.push(Want::Status(status))?;
-        Ok(())
-    }
-
-    /// Gives the usual words where none were said. A verdict is by a model.
-    fn end_words(&mut self, alloc: Global) -> Result<(), Fault> {
-        if has_judged(self.record.wants.as_slice()) && !has_file(&self.record.given.files, "m") {
+        if self.is_judged && !self.given.has_file("m") {
             return Err(Fault::NoModel);
         }
-        if !self.has_words {
-            self.record.given.words = words_of(alloc, usual_words(&self.record.given.files))?;
+        Ok(true)
+    }
+
+    /// The words behind the program's name: the usual ones, where none were said.
+    pub fn words(&self) -> &'a str {
+        match self.words {
+            Some(words) => words,
+            None if self.given.has_file("t") => "check m t",
+            None => "solve m",
         }
-        Ok(())
-    }
-
-    /// The whole record.
-    pub fn end(mut self, alloc: Global) -> Result<Record, Fault> {
-        self.end_text(alloc)?;
-        self.end_wants(alloc)?;
-        self.end_words(alloc)?;
-        let Draft { record, .. } = self;
-        Ok(record)
     }
 }
 
-/// No words and no files, and a room that takes all.
-fn nothing_given(alloc: Global) -> Given {
-    Given {
-        words: Names::new(alloc),
-        files: NamedFiles::new(alloc),
-        failing_reads: Calls::new(alloc),
-        failing_writes: Calls::new(alloc),
-        room: ROOM,
-        is_slow: false,
+fn is_among(names: &[&str], wanted: &str) -> bool {
+    for name in names {
+        if *name == wanted {
+            return true;
+        }
     }
-}
-
-/// What a line with one of `starts`, `has` and `judged` wants.
-fn want_of(alloc: Global, part: &str, rest: &str) -> Result<Want, Fault> {
-    if part == "has" {
-        let (count, text) = number_and_text(rest)?;
-        return Ok(Want::Has(count, String::from_str(alloc, text)?));
-    }
-    let text = unquoted(rest);
-    if text.is_empty() {
-        return Err(Fault::BadArgument);
-    }
-    let text = String::from_str(alloc, text)?;
-    if part == "starts" {
-        Ok(Want::Starts(text))
-    } else {
-        Ok(Want::Judged(text))
-    }
-}
-
-/// The words of a record that says none.
-fn usual_words(files: &NamedFiles) -> &'static str {
-    if has_file(files, "t") {
-        "check m t"
-    } else {
-        "solve m"
-    }
-}
-
-fn has_file(files: &NamedFiles, name: &str) -> bool {
-    files.as_slice().iter().any(|file| file.0.as_str() == name)
-}
-
-fn has_judged(wants: &[Want]) -> bool {
-    wants.iter().any(|want| matches!(want, Want::Judged(_)))
+    false
 }

@@ -1,9 +1,9 @@
 //! Runs the program on records, which are texts with the answers that are due, and prints each record that is answered
 //! otherwise and how many there are.
 //!
-//! Its words name the files of records; with no words these are all files `*.txt` of the folder that it is run in. What it
-//! prints is a line for each record that differs (file, name, what came), a line for each file that can't be read to its end
-//! (file, line, why), which counts as one that differs, and last `N records, M differ`.
+//! Its words name the files of records. What it prints is a line for each record that differs (file, name, what came), a line
+//! for each file that can't be read to its end (file, line, why), which counts as one that differs, and last
+//! `N records, M differ`.
 //!
 //! A record is
 //!
@@ -46,16 +46,15 @@
 mod compare;
 mod draft;
 mod fault;
+mod paced;
 mod parts;
-mod reader;
 mod record;
 mod running;
-mod slow;
 
-use crate::compare::difference;
+use crate::compare::add_difference;
+use crate::draft::Draft;
 use crate::fault::Fault;
-use crate::reader::Reader;
-use crate::record::Record;
+use crate::parts::name_of;
 use std::{env, fs, io, str};
 
 /// How many records have begun, and how many records and files differ.
@@ -65,48 +64,16 @@ struct Tally {
     differ: u64,
 }
 
-/// The files that the words name, or those of the folder.
-fn record_files(rt: &HostRuntime) -> io::Result<Vec<String>> {
-    let alloc = rt.alloc();
-    let mut files = Vec::new(alloc);
-    for word in env::args(rt)?.skip(1) {
-        files.push(word)?;
-    }
-    if files.is_empty() {
-        for entry in fs::read_dir(rt, ".")? {
-            let entry = entry?;
-            if entry.file_name().ends_with(".txt") {
-                files.push(String::from_str(alloc, entry.file_name())?)?;
-            }
-        }
-        files.sort()?;
-    }
-    Ok(files)
-}
-
-impl Tally {
-    /// Counts a record or a file that differs.
-    fn differs(&mut self) {
-        self.differ = self.differ.saturating_add(1);
-    }
-}
-
-/// Runs the record that ended, if one did, and prints a line where it differs.
-fn run_record(
+/// Prints a line for a record or a file that differs.
+fn print_other(
     rt: &HostRuntime,
     file: &str,
-    record: Option<Record>,
+    name: &str,
+    came: &str,
     tally: &mut Tally,
 ) -> io::Result<()> {
-    let Some(record) = record else {
-        return Ok(());
-    };
-    let name = String::from_str(rt.alloc(), record.name.as_str())?;
-    if let Some(came) = difference(rt.alloc(), record)? {
-        tally.differs();
-        println!(rt; "{file}: {name}: {came}")?;
-    }
-    Ok(())
+    tally.differ = tally.differ.saturating_add(1);
+    println!(rt; "{file}: {name}: {came}")
 }
 
 /// Prints why a file isn't read on from a line.
@@ -117,32 +84,86 @@ fn refuse(
     fault: Fault,
     tally: &mut Tally,
 ) -> io::Result<()> {
-    tally.differs();
-    println!(rt; "{file}: line {line}: {fault}")
+    tally.differ = tally.differ.saturating_add(1);
+    let why = fault.told();
+    println!(rt; "{file}: line {line}: {why}")
+}
+
+/// Runs the record that ends here, if one has begun, and prints a line where it differs.
+fn end_record(
+    rt: &HostRuntime,
+    file: &str,
+    draft: &mut Draft<'_>,
+    tally: &mut Tally,
+) -> Result<(), Fault> {
+    if !draft.end()? {
+        return Ok(());
+    }
+    let mut others = String::new(rt.alloc());
+    add_difference(rt.alloc(), draft, &mut others)?;
+    if !others.is_empty() {
+        print_other(rt, file, draft.name, others.as_str(), tally)?;
+    }
+    Ok(())
+}
+
+/// Takes a line, and runs the record that ended before it.
+fn take_line<'a>(
+    rt: &HostRuntime,
+    file: &str,
+    line: &'a str,
+    draft: &mut Draft<'a>,
+    tally: &mut Tally,
+) -> Result<(), Fault> {
+    draft.line = draft.line.saturating_add(1);
+    match name_of(line) {
+        Some(name) => {
+            tally.records = tally.records.saturating_add(1);
+            end_record(rt, file, draft, tally)?;
+            draft.begin(name)
+        }
+        None => draft.take(line),
+    }
+}
+
+/// Runs the records of the lines, up to the first fault.
+fn run_lines<'a>(
+    rt: &HostRuntime,
+    file: &str,
+    text: &'a str,
+    draft: &mut Draft<'a>,
+    tally: &mut Tally,
+) -> Result<(), Fault> {
+    for line in text.split_inclusive('\n') {
+        take_line(rt, file, line, draft, tally)?;
+    }
+    end_record(rt, file, draft, tally)
+}
+
+/// Runs the records of a text.
+fn run_text(rt: &HostRuntime, file: &str, text: &str, tally: &mut Tally) -> io::Result<()> {
+    let mut draft = Draft::new(rt.alloc());
+    match run_lines(rt, file, text, &mut draft, tally) {
+        Ok(()) => Ok(()),
+        Err(fault) => refuse(rt, file, draft.line, fault, tally),
+    }
 }
 
 /// Runs the records of a file.
 fn run_file(rt: &HostRuntime, file: &str, tally: &mut Tally) -> io::Result<()> {
     let bytes = fs::read(rt, file)?;
-    let Ok(text) = str::from_utf8(bytes.as_slice()) else {
-        return refuse(rt, file, 0, Fault::NotUtf8, tally);
-    };
-    let mut reader = Reader::new(rt.alloc());
-    let mut number = 0usize;
-    for line in text.split_inclusive('\n') {
-        number = number.saturating_add(1);
-        if line.starts_with("== ") {
-            tally.records = tally.records.saturating_add(1);
-        }
-        match reader.take(line) {
-            Ok(record) => run_record(rt, file, record, tally)?,
-            Err(fault) => return refuse(rt, file, number, fault, tally),
-        }
+    match str::from_utf8(bytes.as_slice()) {
+        Ok(text) => run_text(rt, file, text, tally),
+        Err(_) => refuse(rt, file, 0, Fault::NotUtf8, tally),
     }
-    match reader.end() {
-        Ok(record) => run_record(rt, file, record, tally),
-        Err(fault) => refuse(rt, file, number, fault, tally),
+}
+
+/// Runs the records of the files that the words name.
+fn run_files(rt: &HostRuntime, tally: &mut Tally) -> io::Result<()> {
+    for file in env::args(rt)?.skip(1) {
+        run_file(rt, file.as_str(), tally)?;
     }
+    Ok(())
 }
 
 fn main(rt: HostRuntime) -> io::Result<()> {
@@ -150,9 +171,7 @@ fn main(rt: HostRuntime) -> io::Result<()> {
         records: 0,
         differ: 0,
     };
-    for file in record_files(&rt)? {
-        run_file(&rt, file.as_str(), &mut tally)?;
-    }
+    run_files(&rt, &mut tally)?;
     let Tally { records, differ } = tally;
     println!(rt; "{records} records, {differ} differ")
 }

@@ -1,17 +1,81 @@
-//! The words and numbers that stand behind a part of a record.
+//! The lines that begin a part of a record, and the words and numbers that stand behind it.
 
 use crate::fault::Fault;
 use cbc_outside::Calls;
 use eb_names::{Name, Names};
 use std::alloc::{AllocError, Global};
 
-/// The name of a part and what stands behind it, if the line begins one.
+/// A part of a record, or of one of its texts.
+#[derive(Clone, Copy)]
+pub enum Part {
+    Words,
+    Reads,
+    Writes,
+    Room,
+    Slowly,
+    Status,
+    Starts,
+    Has,
+    Judged,
+    Model,
+    Tree,
+    File,
+    Prints,
+    Or,
+    Begins,
+    Ends,
+    Line,
+    Repeat,
+    Lines,
+    Bytes,
+}
+
+/// The words of the parts.
+const PARTS: &[(&str, Part)] = &[
+    ("words", Part::Words),
+    ("reads", Part::Reads),
+    ("writes", Part::Writes),
+    ("room", Part::Room),
+    ("slowly", Part::Slowly),
+    ("status", Part::Status),
+    ("starts", Part::Starts),
+    ("has", Part::Has),
+    ("judged", Part::Judged),
+    ("model", Part::Model),
+    ("tree", Part::Tree),
+    ("file", Part::File),
+    ("prints", Part::Prints),
+    ("or", Part::Or),
+    ("begins", Part::Begins),
+    ("ends", Part::Ends),
+    ("line", Part::Line),
+    ("repeat", Part::Repeat),
+    ("lines", Part::Lines),
+    ("bytes", Part::Bytes),
+];
+
+/// The part with this word.
+pub fn part_with(wanted: &str) -> Result<Part, Fault> {
+    for (word, part) in PARTS {
+        if *word == wanted {
+            return Ok(*part);
+        }
+    }
+    Err(Fault::UnknownPart)
+}
+
+/// The word of a part and what stands behind it, if the line begins one.
 pub fn part_of(line: &str) -> Option<(&str, &str)> {
     let part = line.strip_suffix('\n')?.strip_prefix("-- ")?;
     match part.split_once(' ') {
         Some(both) => Some(both),
         None => Some((part, "")),
     }
+}
+
+/// The name of the record that a line begins.
+pub fn name_of(line: &str) -> Option<&str> {
+    line.strip_suffix('\n')?.strip_prefix("== ")
 }
 
 /// What stands between two `"`, or the text itself where it doesn't stand between two.

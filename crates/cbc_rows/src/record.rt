@@ -1,11 +1,16 @@
-use cbc_outside::{Calls, NamedFiles};
-use eb_names::{Bytes, Names};
+use crate::paced::{PacedSink, PacedSource};
+use crate::running::empty_sink;
+use cbc_outside::{Calls, MemSource, NamedFiles};
+use eb_names::Bytes;
+use std::alloc::{AllocError, Global};
+use std::mem;
+
+/// How many bytes the sink takes where a record doesn't say it.
+pub const ROOM: usize = 4 << 20;
 
 /// What a run is given.
 #[derive(Drop)]
 pub struct Given {
-    /// The words behind the program's name.
-    pub words: Names,
     /// The files that are there.
     pub files: NamedFiles,
     /// The calls of the source that fail.
@@ -18,32 +23,83 @@ pub struct Given {
     pub is_slow: bool,
 }
 
-/// One thing that is wanted of a run.
-#[derive(Drop)]
-pub enum Want {
-    /// The output is one of these.
-    Prints(Vec<Bytes>),
-    /// The output begins with these lines.
-    Begins(Bytes),
-    /// The output ends with these lines.
-    Ends(Bytes),
-    /// The first line of the output begins so.
-    Starts(String),
-    /// So many lines of the output begin so.
-    Has(usize, String),
-    /// The run ends with this exit status.
-    Status(u8),
-    /// The output is a tree with this verdict.
-    Judged(String),
+impl Given {
+    /// No files, and a room that takes all.
+    pub fn new(alloc: Global) -> Given {
+        Given {
+            files: NamedFiles::new(alloc),
+            failing_reads: Calls::new(alloc),
+            failing_writes: Calls::new(alloc),
+            room: ROOM,
+            is_slow: false,
+        }
+    }
+
+    /// Whether there is a file with this name.
+    pub fn has_file(&self, name: &str) -> bool {
+        for file in self.files.as_slice() {
+            if file.0.as_str() == name {
+                return true;
+            }
+        }
+        false
+    }
+
+    /// The model's file, of which the tree of the output is judged.
+    pub fn model(&self, alloc: Global) -> Result<Bytes, AllocError> {
+        for (name, text) in self.files.as_slice() {
+            if name.as_str() == "m" {
+                return Bytes::from_slice(alloc, text.as_slice());
+            }
+        }
+        Ok(Bytes::new(alloc))
+    }
+
+    /// The source of the run, which takes the files.
+    pub fn source(&mut self, alloc: Global) -> PacedSource {
+        let files = mem::replace(&mut self.files, NamedFiles::new(alloc));
+        let failing = mem::replace(&mut self.failing_reads, Calls::new(alloc));
+        PacedSource {
+            inner: MemSource::new(files, failing),
+            is_slow: self.is_slow,
+        }
+    }
+
+    /// The sink of the run.
+    pub fn sink(&mut self, alloc: Global) -> Result<PacedSink, AllocError> {
+        let failing = mem::replace(&mut self.failing_writes, Calls::new(alloc));
+        empty_sink(alloc, self.room, failing, self.is_slow)
+    }
 }
 
-/// A run, and what is wanted of it.
+/// What a part says of the output.
+#[derive(Clone, Copy)]
+pub enum Kind {
+    /// It is this text, or one of those that follow with `Or`.
+    Prints,
+    /// It may be this text too.
+    Or,
+    /// It begins with these lines.
+    Begins,
+    /// It ends with these lines.
+    Ends,
+    /// Its first line begins so.
+    Starts,
+    /// So many of its lines begin so.
+    Has,
+    /// It is a tree with this verdict.
+    Judged,
+}
+
+/// One thing that is wanted of the output of a run.
 #[derive(Drop)]
-pub struct Record {
-    /// Its name.
-    pub name: String,
-    /// What the run is given.
-    pub given: Given,
-    /// What is wanted of it.
-    pub wants: Vec<Want>,
+pub struct Want<'a> {
+    /// What is wanted.
+    pub kind: Kind,
+    /// How many lines, of `Has`.
+    pub count: usize,
+    /// What stands in the line itself.
+    pub line: &'a str,
+    /// The text that follows.
+    pub text: Vec<u8>,
 }

@@ -1,79 +1,70 @@
-use crate::record::Given;
-use crate::slow::{SlowSink, SlowSource};
+use crate::paced::{PacedSink, PacedSource};
+use crate::parts::words_of;
 use cbc_outside::{Calls, MemSink, MemSource, NamedFiles};
 use cbc_top::{Status, run};
-use eb_names::{Bytes, Name, Names};
+use eb_names::{Bytes, Name};
 use std::alloc::{AllocError, Global};
 
-/// What a run wrote, and how it ended.
-#[derive(Drop)]
-pub struct Outcome {
-    /// What was written.
-    pub output: Bytes,
-    /// How it ended.
-    pub status: Status,
-}
+/// How many bytes a verdict has at most.
+const VERDICT_ROOM: usize = 100;
 
-/// How the run ends that is given this.
-pub fn outcome_of(alloc: Global, given: Given) -> Result<Outcome, AllocError> {
-    let Given {
-        words,
-        files,
-        failing_reads,
-        failing_writes,
-        room,
-        is_slow,
-    } = given;
-    let src = MemSource::new(files, failing_reads);
-    let out = MemSink::new(alloc, room, failing_writes)?;
-    if is_slow {
-        slow_outcome(alloc, words.as_slice(), src, out)
-    } else {
-        quick_outcome(alloc, words.as_slice(), src, out)
-    }
-}
-
-fn quick_outcome(
+/// How the run of these words ends.
+pub fn status_of_run(
     alloc: Global,
-    words: &[Name],
-    mut src: MemSource,
-    mut out: MemSink,
-) -> Result<Outcome, AllocError> {
-    let status = run(alloc, words, &mut src, &mut out);
-    let output = Bytes::from_slice(alloc, out.taken())?;
-    Ok(Outcome { output, status })
+    words: &str,
+    src: &mut PacedSource,
+    out: &mut PacedSink,
+) -> Result<Status, AllocError> {
+    let words = words_of(alloc, words)?;
+    Ok(run(alloc, words.as_slice(), src, out))
 }
 
-fn slow_outcome(
+/// An empty room.
+pub fn empty_sink(
     alloc: Global,
-    words: &[Name],
-    src: MemSource,
-    out: MemSink,
-) -> Result<Outcome, AllocError> {
-    let mut src = SlowSource { inner: src };
-    let mut out = SlowSink { inner: out };
-    let status = run(alloc, words, &mut src, &mut out);
-    let output = Bytes::from_slice(alloc, out.inner.taken())?;
-    Ok(Outcome { output, status })
+    room: usize,
+    failing: Calls,
+    is_slow: bool,
+) -> Result<PacedSink, AllocError> {
+    let inner = MemSink::new(alloc, room, failing)?;
+    Ok(PacedSink { inner, is_slow })
 }
 
-/// What `check` writes on a model and a tree.
-pub fn verdict(alloc: Global, model: &[u8], tree: &[u8]) -> Result<Bytes, AllocError> {
-    let mut words = Names::new(alloc);
+/// Adds a file with this text.
+pub fn add_file(
+    alloc: Global,
+    files: &mut NamedFiles,
+    name: &str,
+    text: &[u8],
+) -> Result<(), AllocError> {
+    let name = Name::new(alloc, name)?;
+    let text = Bytes::from_slice(alloc, text)?;
+    files.push((name, text))
+}
+
+/// The files of a model and a tree.
+fn model_and_tree(alloc: Global, model: &[u8], tree: &[u8]) -> Result<PacedSource, AllocError> {
     let mut files = NamedFiles::new(alloc);
-    words.push(Name::new(alloc, "check")?)?;
-    for (name, text) in [("m", model), ("t", tree)] {
-        words.push(Name::new(alloc, name)?)?;
-        files.push((Name::new(alloc, name)?, Bytes::from_slice(alloc, text)?))?;
-    }
-    let given = Given {
-        words,
-        files,
-        failing_reads: Calls::new(alloc),
-        failing_writes: Calls::new(alloc),
-        room: 100,
+    add_file(alloc, &mut files, "m", model)?;
+    add_file(alloc, &mut files, "t", tree)?;
+    Ok(PacedSource {
+        inner: MemSource::new(files, Calls::new(alloc)),
         is_slow: false,
-    };
-    let Outcome { output, .. } = outcome_of(alloc, given)?;
-    Ok(output)
+    })
+}
+
+/// An empty room for a verdict.
+pub fn verdict_sink(alloc: Global) -> Result<PacedSink, AllocError> {
+    empty_sink(alloc, VERDICT_ROOM, Calls::new(alloc), false)
+}
+
+/// How `check` ends on a model and a tree.
+pub fn status_of_check(
+    alloc: Global,
+    model: &[u8],
+    tree: &[u8],
+    out: &mut PacedSink,
+) -> Result<Status, AllocError> {
+    let mut src = model_and_tree(alloc, model, tree)?;
+    status_of_run(alloc, "check m t", &mut src, out)
 }

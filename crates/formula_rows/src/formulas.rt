@@ -1,6 +1,7 @@
 use super::shown_formulas::{placed, show};
-use super::writing::{put_at, put_name, put_pair};
-use eb_lexer::{Tokens, tokens};
+use super::tokens::tokens_of;
+use super::writing::{put_at, put_name};
+use eb_lexer::Tokens;
 use eb_parser::{FormulaKind, ParseFault, formula};
 use eb_spelling::spell;
 use eb_syntax::Ast;
@@ -8,15 +9,19 @@ use sqlite_items::Boxed;
 use std::alloc::{AllocError, Global};
 use std::str;
 
-/// The tokens of a text, if it has some.
-fn tokens_of(alloc: Global, text: &[u8]) -> Option<Tokens> {
-    if text.len() >= 1 << 32 {
-        return None;
-    }
-    match tokens(alloc, text) {
-        Ok(tokens) if tokens.len() < 1 << 32 => Some(tokens),
-        _ => None,
-    }
+/// What is shown of a formula.
+#[derive(Clone, Copy)]
+pub(crate) enum Shown {
+    /// The formula, its operators first, and how many tokens are behind it where there are some.
+    Formula,
+    /// How many tokens are behind it where there are some.
+    Left,
+    /// The places of its parts, and the position behind it.
+    Places,
+    /// Whether it is the whole text.
+    Reach,
+    /// The text that it is spelled with.
+    Spelled,
 }
 
 /// The formula of the kind at a position, in a box, and the position behind it.
@@ -33,133 +38,96 @@ fn boxed_formula(
     Ok((Boxed::new(alloc, ast)?, end))
 }
 
-/// The formula, its operators first, and how many tokens are behind it where there are some.
-fn show_found(ast: &Ast, left: usize, out: &mut String) -> Result<(), AllocError> {
-    show(ast, out)?;
+fn show_left(left: usize, out: &mut String) -> Result<(), AllocError> {
     if left > 0 {
         write!(out, " +{left}")?;
     }
     Ok(())
 }
 
-/// The places of the formula's parts, and the position behind it.
+fn show_whole(ast: &Ast, left: usize, out: &mut String) -> Result<(), AllocError> {
+    show(ast, out)?;
+    show_left(left, out)
+}
+
 fn show_places(ast: &Ast, end: u32, out: &mut String) -> Result<(), AllocError> {
     placed(ast, out)?;
     put_at("to ", end, out)
 }
 
-/// The formula of the kind at a position, or the fault.
-fn show_at(
-    alloc: Global,
-    tokens: &Tokens,
-    position: u32,
-    kind: FormulaKind,
-    out: &mut String,
-) -> Result<(), AllocError> {
-    match boxed_formula(alloc, tokens, position, kind) {
-        Ok((ast, end)) => show_found(ast.get(), tokens.len().saturating_sub(end as usize), out),
-        Err(fault) => put_name("", fault, out),
-    }
-}
-
-/// The places of the formula of the kind at a position, or the fault.
-fn show_places_at(
-    alloc: Global,
-    tokens: &Tokens,
-    position: u32,
-    kind: FormulaKind,
-    out: &mut String,
-) -> Result<(), AllocError> {
-    match boxed_formula(alloc, tokens, position, kind) {
-        Ok((ast, end)) => show_places(ast.get(), end, out),
-        Err(fault) => put_name("", fault, out),
-    }
-}
-
-/// The formula of the kind at a position of the text.
-pub(crate) fn formula_at(
-    alloc: Global,
-    text: &[u8],
-    position: u32,
-    kind: FormulaKind,
-) -> Result<String, AllocError> {
-    let mut out = String::new(alloc);
-    match tokens_of(alloc, text) {
-        Some(tokens) => show_at(alloc, &tokens, position, kind, &mut out)?,
-        None => out.push_str("no tokens")?,
-    }
-    Ok(out)
-}
-
-/// Whether the formula at the front is the whole text, or the fault.
-pub(crate) fn reach(alloc: Global, text: &[u8], kind: FormulaKind) -> Result<String, AllocError> {
-    let got = formula_at(alloc, text, 0, kind)?;
-    if got.as_str().starts_with("TooDeep") || got.as_str().starts_with("Syntax") {
-        return Ok(got);
-    }
-    let rest = if got.as_str().contains("+") {
-        "in part"
-    } else {
-        "whole"
-    };
-    String::from_str(alloc, rest)
-}
-
-/// The places of the formula's parts, and the position behind it.
-pub(crate) fn places_at(
-    alloc: Global,
-    text: &[u8],
-    position: u32,
-    kind: FormulaKind,
-) -> Result<String, AllocError> {
-    let mut out = String::new(alloc);
-    match tokens_of(alloc, text) {
-        Some(tokens) => show_places_at(alloc, &tokens, position, kind, &mut out)?,
-        None => out.push_str("no tokens")?,
-    }
-    Ok(out)
-}
-
-/// The text that the formula is spelled with.
 fn show_spelled(alloc: Global, ast: &Ast, out: &mut String) -> Result<(), AllocError> {
     let text = spell(alloc, ast)?;
     out.push_str(str::from_utf8(text.as_slice()).unwrap_or("no UTF-8"))
 }
 
-/// The text that the formula at the front is spelled with, or the fault.
-fn show_spelled_at(
+/// What is to be shown of the formula that ends at a position, with so many tokens behind it.
+fn show_found(
     alloc: Global,
-    tokens: &Tokens,
-    kind: FormulaKind,
+    ast: &Ast,
+    (end, left): (u32, usize),
+    shown: Shown,
     out: &mut String,
 ) -> Result<(), AllocError> {
-    match boxed_formula(alloc, tokens, 0, kind) {
-        Ok((ast, _)) => show_spelled(alloc, ast.get(), out),
+    match shown {
+        Shown::Formula => show_whole(ast, left, out),
+        Shown::Left => show_left(left, out),
+        Shown::Places => show_places(ast, end, out),
+        Shown::Reach => out.push_str(if left > 0 { "in part" } else { "whole" }),
+        Shown::Spelled => show_spelled(alloc, ast, out),
+    }
+}
+
+/// What is to be shown of the formula of the kind at a position, or the fault.
+fn show_at(
+    alloc: Global,
+    tokens: &Tokens,
+    (position, kind): (u32, FormulaKind),
+    shown: Shown,
+    out: &mut String,
+) -> Result<(), AllocError> {
+    match boxed_formula(alloc, tokens, position, kind) {
+        Ok((ast, end)) => {
+            let left = tokens.len().saturating_sub(end as usize);
+            show_found(alloc, ast.get(), (end, left), shown, out)
+        }
         Err(fault) => put_name("", fault, out),
     }
 }
 
-/// The text that the formula at the front is spelled with.
-pub(crate) fn spelled(alloc: Global, text: &[u8], kind: FormulaKind) -> Result<String, AllocError> {
-    let mut out = String::new(alloc);
+/// What is to be shown of the formula of the kind at a position of the text, or the fault.
+pub(crate) fn formula_at(
+    alloc: Global,
+    text: &[u8],
+    found: (u32, FormulaKind),
+    shown: Shown,
+    out: &mut String,
+) -> Result<(), AllocError> {
     match tokens_of(alloc, text) {
-        Some(tokens) => show_spelled_at(alloc, &tokens, kind, &mut out)?,
-        None => out.push_str("no tokens")?,
+        Some(tokens) => show_at(alloc, &tokens, found, shown, out),
+        None => out.push_str("no tokens"),
     }
-    Ok(out)
 }
 
-/// The formula that is read of the text that the formula at the front is spelled with; ` +N` is left as it is with the first.
+/// The formula that is read of the text that the formula at the front is spelled with, and how many tokens
+/// are behind the first.
 pub(crate) fn respelled(
     alloc: Global,
     text: &[u8],
     kind: FormulaKind,
-) -> Result<String, AllocError> {
-    let first = formula_at(alloc, text, 0, kind)?;
-    let again = spelled(alloc, text, kind)?;
-    let mut out = formula_at(alloc, again.as_str().as_bytes(), 0, kind)?;
-    if let Some((_, left)) = first.as_str().rsplit_once(" +") {
-        put_pair(" +", left, &mut out)?;
-    }
-    Ok(out)
+    out: &mut String,
+) -> Result<(), AllocError> {
+    let mut again = String::new(alloc);
+    formula_at(alloc, text, (0, kind), Shown::Spelled, &mut again)?;
+    show_again(alloc, text, again.as_str(), kind, out)
+}
+
+fn show_again(
+    alloc: Global,
+    text: &[u8],
+    again: &str,
+    kind: FormulaKind,
+    out: &mut String,
+) -> Result<(), AllocError> {
+    formula_at(alloc, again.as_bytes(), (0, kind), Shown::Formula, out)?;
+    formula_at(alloc, text, (0, kind), Shown::Left, out)
 }

@@ -1,5 +1,5 @@
 use super::columns::bytes_of;
-use super::formulas::{formula_at, places_at, reach, respelled, spelled};
+use super::formulas::{Shown, formula_at, respelled};
 use super::tokens::{kinds_and_faults, places};
 use super::units::units_of;
 use eb_parser::FormulaKind;
@@ -12,16 +12,9 @@ pub(crate) enum Kind {
     Tokens,
     /// The places of the tokens in bytes.
     TokenPlaces,
-    /// The formula of the kind at the front.
-    Formula(FormulaKind),
-    /// The formula of the kind at the position that stands before the text.
-    FormulaAt(FormulaKind),
-    /// The places of the predicate at the position that stands before the text.
-    FormulaPlaces,
-    /// Whether the formula at the front is the whole text.
-    Reach(FormulaKind),
-    /// The text of the predicate at the front, spelled again.
-    Spelled,
+    /// What is to be shown of the formula of the kind at the position that stands before the text, or at the
+    /// front.
+    Formula(Shown, FormulaKind),
     /// The formula of the kind that is read of the text of the one at the front.
     Respelled(FormulaKind),
     /// The units.
@@ -32,13 +25,13 @@ pub(crate) fn kind_of(name: &str) -> Option<Kind> {
     match name {
         "tokens" => Some(Kind::Tokens),
         "token_places" => Some(Kind::TokenPlaces),
-        "expressions" => Some(Kind::Formula(FormulaKind::Expr)),
-        "predicates" => Some(Kind::Formula(FormulaKind::Pred)),
-        "expressions_at" => Some(Kind::FormulaAt(FormulaKind::Expr)),
-        "predicate_places" => Some(Kind::FormulaPlaces),
-        "expression_reach" => Some(Kind::Reach(FormulaKind::Expr)),
-        "predicate_reach" => Some(Kind::Reach(FormulaKind::Pred)),
-        "spelled" => Some(Kind::Spelled),
+        "expressions" => Some(Kind::Formula(Shown::Formula, FormulaKind::Expr)),
+        "predicates" => Some(Kind::Formula(Shown::Formula, FormulaKind::Pred)),
+        "expressions_at" => Some(Kind::Formula(Shown::Formula, FormulaKind::Expr)),
+        "predicate_places" => Some(Kind::Formula(Shown::Places, FormulaKind::Pred)),
+        "expression_reach" => Some(Kind::Formula(Shown::Reach, FormulaKind::Expr)),
+        "predicate_reach" => Some(Kind::Formula(Shown::Reach, FormulaKind::Pred)),
+        "spelled" => Some(Kind::Formula(Shown::Spelled, FormulaKind::Pred)),
         "respelled_expressions" => Some(Kind::Respelled(FormulaKind::Expr)),
         "respelled_predicates" => Some(Kind::Respelled(FormulaKind::Pred)),
         "units" => Some(Kind::Units),
@@ -55,19 +48,29 @@ fn positioned(text: &str) -> (u32, &str) {
 }
 
 /// What the library makes of the text.
-pub(crate) fn answer(alloc: Global, kind: Kind, text: &str) -> Result<String, AllocError> {
+pub(crate) fn answer(
+    alloc: Global,
+    kind: Kind,
+    text: &str,
+    out: &mut String,
+) -> Result<(), AllocError> {
     let (position, text) = positioned(text);
     let bytes = bytes_of(alloc, text)?;
-    let bytes = bytes.as_slice();
+    answer_to(alloc, kind, position, bytes.as_slice(), out)
+}
+
+fn answer_to(
+    alloc: Global,
+    kind: Kind,
+    position: u32,
+    text: &[u8],
+    out: &mut String,
+) -> Result<(), AllocError> {
     match kind {
-        Kind::Tokens => kinds_and_faults(alloc, bytes),
-        Kind::TokenPlaces => places(alloc, bytes),
-        Kind::Formula(kind) => formula_at(alloc, bytes, 0, kind),
-        Kind::FormulaAt(kind) => formula_at(alloc, bytes, position, kind),
-        Kind::FormulaPlaces => places_at(alloc, bytes, position, FormulaKind::Pred),
-        Kind::Reach(kind) => reach(alloc, bytes, kind),
-        Kind::Spelled => spelled(alloc, bytes, FormulaKind::Pred),
-        Kind::Respelled(kind) => respelled(alloc, bytes, kind),
-        Kind::Units => units_of(alloc, bytes),
+        Kind::Tokens => kinds_and_faults(alloc, text, out),
+        Kind::TokenPlaces => places(alloc, text, out),
+        Kind::Formula(shown, kind) => formula_at(alloc, text, (position, kind), shown, out),
+        Kind::Respelled(kind) => respelled(alloc, text, kind, out),
+        Kind::Units => units_of(alloc, text, out),
     }
 }

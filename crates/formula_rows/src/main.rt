@@ -23,49 +23,73 @@ struct Counts {
     differ: u64,
 }
 
-/// What the library makes of the row, if that isn't the last of its columns.
-fn difference(alloc: Global, kind: Kind, row: &str) -> Result<Option<String>, AllocError> {
+/// Writes what the library makes of the row, and tells whether that is the last of its columns.
+fn is_right(alloc: Global, kind: Kind, row: &str, got: &mut String) -> Result<bool, AllocError> {
     let Some((text, want)) = row.rsplit_once('\t') else {
-        return Ok(None);
+        return Ok(true);
     };
+    answer(alloc, kind, text, got)?;
     let want = bytes_of(alloc, want)?;
-    let got = answer(alloc, kind, text)?;
-    if got.as_bytes() == want.as_slice() {
-        Ok(None)
-    } else {
-        Ok(Some(got))
-    }
+    Ok(got.as_bytes() == want.as_slice())
 }
 
-fn run_file(rt: &HostRuntime, word: &str, counts: &mut Counts) -> io::Result<()> {
-    let alloc = rt.alloc();
-    let Some((name, file)) = word.split_once('=') else {
-        return println!(rt; "no kind and file: {word}");
-    };
-    let Some(kind) = kind_of(name) else {
-        return println!(rt; "no kind: {name}");
-    };
-    let text = fs::read_to_string(rt, file)?;
+/// Judges a row, and prints it with its kind and line where it differs.
+fn judge(
+    rt: &HostRuntime,
+    (name, kind): (&str, Kind),
+    (line, row): (u64, &str),
+    counts: &mut Counts,
+) -> io::Result<()> {
+    counts.rows = counts.rows.saturating_add(1);
+    let mut got = String::new(rt.alloc());
+    if is_right(rt.alloc(), kind, row, &mut got)? {
+        return Ok(());
+    }
+    counts.differ = counts.differ.saturating_add(1);
+    println!(rt; "{name} {line}: {}", got.as_str())
+}
+
+fn judge_all(
+    rt: &HostRuntime,
+    (name, kind): (&str, Kind),
+    text: &str,
+    counts: &mut Counts,
+) -> io::Result<()> {
     let mut line = 0u64;
-    for row in text.as_str().lines() {
+    for row in text.lines() {
         line = line.saturating_add(1);
-        if !row.contains('\t') {
-            continue;
-        }
-        counts.rows = counts.rows.saturating_add(1);
-        if let Some(got) = difference(alloc, kind, row)? {
-            counts.differ = counts.differ.saturating_add(1);
-            println!(rt; "{name} {line}: {got}")?;
+        if row.contains('\t') {
+            judge(rt, (name, kind), (line, row), counts)?;
         }
     }
     Ok(())
 }
 
+fn judge_file(
+    rt: &HostRuntime,
+    (name, kind): (&str, Kind),
+    file: &str,
+    counts: &mut Counts,
+) -> io::Result<()> {
+    let text = fs::read_to_string(rt, file)?;
+    judge_all(rt, (name, kind), text.as_str(), counts)
+}
+
+/// Judges the rows of the kind and of the file that a word names.
+fn run_word(rt: &HostRuntime, word: &str, counts: &mut Counts) -> io::Result<()> {
+    let Some((name, file)) = word.split_once('=') else {
+        return println!(rt; "no kind and file: {word}");
+    };
+    match kind_of(name) {
+        Some(kind) => judge_file(rt, (name, kind), file, counts),
+        None => println!(rt; "no kind: {name}"),
+    }
+}
+
 fn main(rt: HostRuntime) -> io::Result<()> {
     let mut counts = Counts { rows: 0, differ: 0 };
-    let words = env::args(&rt)?;
-    for word in words.skip(1) {
-        run_file(&rt, word.as_str(), &mut counts)?;
+    for word in env::args(&rt)?.skip(1) {
+        run_word(&rt, word.as_str(), &mut counts)?;
     }
     println!(rt; "{} rows, {} differ", counts.rows, counts.differ)
 }

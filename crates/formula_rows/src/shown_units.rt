@@ -1,4 +1,4 @@
-use super::writing::{put_at, put_name, put_pair};
+use super::writing::{put_at, put_name, put_number, put_pair};
 use eb_names::Name;
 use eb_syntax::{
     Action, Assignment, Ast, Context, ContextClause, EbUnit, Event, Goal, Identifier, Inheritance,
@@ -209,16 +209,17 @@ fn show_setting(setting: &ScopeSetting, out: &mut String) -> Result<(), AllocErr
     match setting {
         ScopeSetting::Integers(place, lo, hi) => {
             put_at(" int", *place, out)?;
-            write!(out, " {lo}..{hi}")
+            put_number(" ", *lo, out)?;
+            put_number("..", *hi, out)
         }
         ScopeSetting::Size(set, size) => {
             out.push_str(" size")?;
             show_name(set, out)?;
-            write!(out, " {size}")
+            put_number(" ", *size, out)
         }
         ScopeSetting::Depth(place, depth) => {
             put_at(" depth", *place, out)?;
-            write!(out, " {depth}")
+            put_number(" ", *depth, out)
         }
     }
 }
@@ -236,7 +237,7 @@ fn show_goal(goal: &Goal, out: &mut String) -> Result<(), AllocError> {
         Goal::Take(event) => put_pair(" take ", event.as_str(), out),
         Goal::False(event, guard) => {
             put_pair(" false ", event.as_str(), out)?;
-            write!(out, " {guard}")
+            put_number(" ", *guard, out)
         }
     }
 }

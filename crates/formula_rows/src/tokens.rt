@@ -1,5 +1,5 @@
 use super::writing::{put_at, put_name, put_pair};
-use eb_lexer::{LexFault, TokenKind, tokens};
+use eb_lexer::{LexFault, Token, TokenKind, Tokens, tokens};
 use std::alloc::{AllocError, Global};
 
 fn show_kind(kind: &TokenKind, out: &mut String) -> Result<(), AllocError> {
@@ -20,43 +20,57 @@ fn show_fault(fault: LexFault, out: &mut String) -> Result<(), AllocError> {
     }
 }
 
-/// The tokens of a text with one blank between two of them, a sign by its name; or the fault.
-pub(crate) fn kinds_and_faults(alloc: Global, text: &[u8]) -> Result<String, AllocError> {
-    let mut out = String::new(alloc);
+/// The tokens of a text, if it has some.
+pub(crate) fn tokens_of(alloc: Global, text: &[u8]) -> Option<Tokens> {
     if text.len() >= 1 << 32 {
-        return Ok(out);
+        return None;
+    }
+    tokens(alloc, text).ok()
+}
+
+fn show_kinds(tokens: &[Token], out: &mut String) -> Result<(), AllocError> {
+    for token in tokens {
+        if !out.is_empty() {
+            out.push(' ')?;
+        }
+        show_kind(&token.kind, out)?;
+    }
+    Ok(())
+}
+
+/// The tokens of a text with one blank between two of them, a sign by its name; or the fault.
+pub(crate) fn kinds_and_faults(
+    alloc: Global,
+    text: &[u8],
+    out: &mut String,
+) -> Result<(), AllocError> {
+    if text.len() >= 1 << 32 {
+        return Ok(());
     }
     match tokens(alloc, text) {
-        Ok(tokens) => {
-            for token in tokens.as_slice() {
-                if !out.is_empty() {
-                    out.push(' ')?;
-                }
-                show_kind(&token.kind, &mut out)?;
-            }
-        }
-        Err(fault) => show_fault(fault, &mut out)?,
+        Ok(tokens) => show_kinds(tokens.as_slice(), out),
+        Err(fault) => show_fault(fault, out),
     }
-    Ok(out)
+}
+
+fn show_places(tokens: &[Token], out: &mut String) -> Result<(), AllocError> {
+    for token in tokens {
+        if !out.is_empty() {
+            out.push(' ')?;
+        }
+        put_at("", token.start, out)?;
+        put_at("-", token.end, out)?;
+    }
+    Ok(())
 }
 
 /// The places of the tokens of a text, with one blank between two of them; or the fault.
-pub(crate) fn places(alloc: Global, text: &[u8]) -> Result<String, AllocError> {
-    let mut out = String::new(alloc);
+pub(crate) fn places(alloc: Global, text: &[u8], out: &mut String) -> Result<(), AllocError> {
     if text.len() >= 1 << 32 {
-        return Ok(out);
+        return Ok(());
     }
     match tokens(alloc, text) {
-        Ok(tokens) => {
-            for token in tokens.as_slice() {
-                if !out.is_empty() {
-                    out.push(' ')?;
-                }
-                put_at("", token.start, &mut out)?;
-                put_at("-", token.end, &mut out)?;
-            }
-        }
-        Err(fault) => show_fault(fault, &mut out)?,
+        Ok(tokens) => show_places(tokens.as_slice(), out),
+        Err(fault) => show_fault(fault, out),
     }
-    Ok(out)
 }

@@ -1,118 +1,142 @@
-//! What the library answers to a row, as text. None where the row isn't one: an operator, a type or an
-//! argument isn't read.
+//! What the library answers to a row, written as text. Each call tells whether the row is one: it is none
+//! where an operator isn't known or has no such arguments, and then nothing is written.
 ghost use Rattle.std.specs.Prelude.{◌≡◌, true};
 ghost use Rattle.std.specs.List.{list_all};
 ghost use Rattle.eb_value.specs.Comprehensions.{members};
 ghost use Rattle.eb_value.specs.Values.{is_ascending as rises};
 
-use crate::setting::{set_text, text_of, value_of};
-use eb_names::Bytes;
+use crate::setting::{text_of, values_of};
 use eb_value::{
     EbType, Form, Scope, Value, Values, apply, compare, compose, contains, count, cross, direct,
     dom_drop, dom_keep, domain, has_type, image, integers, inverse, is_ascending, is_functional,
-    meet, meet_all, minus, overlay, parallel, parts, ran_drop, ran_keep, range, set_of, union,
-    union_all, values,
+    meet, meet_all, minus, overlay, parallel, parts, ran_drop, ran_keep, range, same_type, set_of,
+    union, union_all, values,
 };
+use sqlite_items::Boxed;
 use std::alloc::{AllocError, Global};
 use std::cmp::Ordering;
+use std::str;
 
-pub(crate) type Answer = Result<Option<Bytes>, AllocError>;
+pub(crate) type Answer = Result<bool, AllocError>;
 
 /// A text as an answer.
-fn word(alloc: Global, text: &str) -> Answer {
-    Ok(Some(Bytes::from_slice(alloc, text.as_bytes())?))
+pub(crate) fn word(text: &str, out: &mut String) -> Answer {
+    out.push_str(text)?;
+    Ok(true)
 }
 
-pub(crate) fn truth(alloc: Global, truth: bool) -> Answer {
-    word(alloc, if truth { "true" } else { "false" })
+fn truth(truth: bool, out: &mut String) -> Answer {
+    word(if truth { "true" } else { "false" }, out)
 }
 
-fn number(alloc: Global, n: u64) -> Answer {
-    let text = format!(in alloc; "{}", n)?;
-    word(alloc, text.as_str())
+fn number(n: u64, out: &mut String) -> Answer {
+    write!(out, "{}", n)?;
+    Ok(true)
+}
+
+/// A value as an answer.
+fn shown(alloc: Global, value: &Value, out: &mut String) -> Answer {
+    let text = text_of(alloc, value)?;
+    word(str::from_utf8(text.as_slice()).unwrap_or("no UTF-8"), out)
 }
 
 /// The set with these members as an answer.
-fn listed(alloc: Global, members: Values) -> Answer {
-    Ok(Some(set_text(alloc, members)?))
+fn listed(alloc: Global, members: Result<Values, AllocError>, out: &mut String) -> Answer {
+    let set = Value::set(members?);
+    shown(alloc, &set, out)
 }
 
-/// What an operator answers at a type.
-pub(crate) fn of_type(alloc: Global, scope: &Scope, operator: &str, ty: &EbType) -> Answer {
+/// What an operator answers at types.
+pub(crate) fn of_types(
+    alloc: Global,
+    scope: &Scope,
+    operator: &str,
+    (first, second): (&EbType, &EbType),
+    out: &mut String,
+) -> Answer {
     match operator {
-        "count" => number(alloc, count(ty, scope)),
-        "values" => listed(alloc, values(alloc, ty, scope)?),
-        "again" => listed_again(alloc, scope, ty),
-        _ => of_values(alloc, operator, &[]),
+        "same_type" => truth(same_type(first, second), out),
+        "count" => number(count(first, scope), out),
+        "values" => listed(alloc, values(alloc, first, scope), out),
+        "again" => listed_again(alloc, scope, first, out),
+        _ => of_values(alloc, operator, &[], out),
     }
 }
 
 /// How many members the set of all values of a type has, as its text is read again; `none` where that is
 /// the text of no set.
-fn listed_again(alloc: Global, scope: &Scope, ty: &EbType) -> Answer {
-    let text = set_text(alloc, values(alloc, ty, scope)?)?;
+fn listed_again(alloc: Global, scope: &Scope, ty: &EbType, out: &mut String) -> Answer {
+    let mut text = String::new(alloc);
+    listed(alloc, values(alloc, ty, scope), &mut text)?;
+    set_counted(alloc, scope, ty, text.as_str(), out)
+}
+
+fn set_counted(alloc: Global, scope: &Scope, ty: &EbType, text: &str, out: &mut String) -> Answer {
     let sets = EbType::power(alloc, ty.copied(alloc)?)?;
-    members_counted(alloc, scope, &sets, text.as_slice())
+    members_counted(alloc, scope, &sets, text, out)
 }
 
-fn members_counted(alloc: Global, scope: &Scope, sets: &EbType, text: &[u8]) -> Answer {
-    if let Some(value) = value_of(alloc, scope, sets, text)? {
-        if let Form::Set(members) = &value.form {
-            return number(alloc, members.len() as u64);
-        }
-    }
-    word(alloc, "none")
-}
-
-/// The text of what is read, and `none` where nothing is.
-pub(crate) fn read_again(alloc: Global, scope: &Scope, ty: &EbType, text: &str) -> Answer {
-    match value_of(alloc, scope, ty, text.as_bytes())? {
-        Some(value) => Ok(Some(text_of(alloc, &value)?)),
-        None => word(alloc, "none"),
-    }
-}
-
-/// Whether what is read as one type has the other.
-pub(crate) fn typed(
+fn members_counted(
     alloc: Global,
     scope: &Scope,
-    ty: &EbType,
-    other: &EbType,
+    sets: &EbType,
     text: &str,
+    out: &mut String,
 ) -> Answer {
-    match value_of(alloc, scope, ty, text.as_bytes())? {
-        Some(value) => truth(alloc, has_type(&value, other, scope)),
-        None => Ok(None),
+    let values = values_of(alloc, scope, (sets, sets), &[text])?;
+    if let [value] = values.as_slice() {
+        if let Form::Set(members) = &value.form {
+            return number(members.len() as u64, out);
+        }
+    }
+    word("none", out)
+}
+
+/// What an operator answers to values that are read, `has_type` at the other type of the row.
+pub(crate) fn of_read(
+    alloc: Global,
+    scope: &Scope,
+    operator: &str,
+    other: &EbType,
+    values: &[Value],
+    out: &mut String,
+) -> Answer {
+    match values {
+        [value] if operator == "reads" => shown(alloc, value, out),
+        [value] if operator == "has_type" => truth(has_type(value, other, scope), out),
+        _ => of_values(alloc, operator, values, out),
     }
 }
 
 /// What an operator answers to values.
-pub(crate) fn of_values(alloc: Global, operator: &str, values: &[Value]) -> Answer {
-    match values {
-        _ if operator == "set_of" => collected(alloc, values),
-        _ if operator == "union_all" => listed(alloc, union_all(alloc, values)?),
-        _ if operator == "meet_all" => met(alloc, values),
-        [value] => of_one(alloc, operator, value),
-        [first, second] => of_two(alloc, operator, first, second),
-        _ => Ok(None),
+fn of_values(alloc: Global, operator: &str, values: &[Value], out: &mut String) -> Answer {
+    match operator {
+        "set_of" => collected(alloc, values, out),
+        "union_all" => listed(alloc, union_all(alloc, values), out),
+        "meet_all" => met(alloc, values, out),
+        _ => match values {
+            [value] => of_one(alloc, operator, value, out),
+            [first, second] => of_two(alloc, operator, first, second, out),
+            _ => Ok(false),
+        },
     }
 }
 
-fn collected(alloc: Global, values: &[Value]) -> Answer {
+fn collected(alloc: Global, values: &[Value], out: &mut String) -> Answer {
     let mut all = Vec::new(alloc);
     for value in values {
         all.push(value.copied(alloc)?)?;
     }
-    listed(alloc, set_of(all))
+    listed(alloc, Ok(set_of(all)), out)
 }
 
-fn met(alloc: Global, sets: &[Value]) -> Answer {
+fn met(alloc: Global, sets: &[Value], out: &mut String) -> Answer {
     if !are_ascending(sets) {
-        return Ok(None);
+        return Ok(false);
     }
     match meet_all(alloc, sets)? {
-        Some(members) => listed(alloc, members),
-        None => word(alloc, "none"),
+        Some(members) => listed(alloc, Ok(members), out),
+        None => word("none", out),
     }
 }
 
@@ -138,51 +162,65 @@ fn has_ascending_members(value: &Value) -> bool
 }
 
 /// What an operator of one argument answers.
-fn of_one(alloc: Global, operator: &str, value: &Value) -> Answer {
-    if operator == "parts" {
-        return shown_parts(alloc, value);
+fn of_one(alloc: Global, operator: &str, value: &Value, out: &mut String) -> Answer {
+    match &value.form {
+        _ if operator == "parts" => shown_parts(alloc, value, out),
+        Form::Set(relation) => of_relation(alloc, operator, relation, out),
+        _ => Ok(false),
     }
-    let Form::Set(relation) = &value.form else {
-        return Ok(None);
-    };
+}
+
+/// What an operator on a set answers.
+fn of_relation(alloc: Global, operator: &str, relation: &Values, out: &mut String) -> Answer {
     match operator {
-        "inverse" => listed(alloc, inverse(alloc, relation)?),
-        "domain" => listed(alloc, domain(alloc, relation)?),
-        "range" => listed(alloc, range(alloc, relation)?),
+        "inverse" => listed(alloc, inverse(alloc, relation), out),
+        "domain" => listed(alloc, domain(alloc, relation), out),
+        "range" => listed(alloc, range(alloc, relation), out),
         "is_functional" if is_ascending(relation.as_slice()) => {
-            truth(alloc, is_functional(relation.as_slice()))
+            truth(is_functional(relation.as_slice()), out)
         }
-        _ => Ok(None),
+        _ => Ok(false),
     }
 }
 
 /// The two values of a pair, with `and` between them.
-fn shown_parts(alloc: Global, value: &Value) -> Answer {
+fn shown_parts(alloc: Global, value: &Value, out: &mut String) -> Answer {
     let Some((first, second)) = parts(value) else {
-        return word(alloc, "none");
+        return word("none", out);
     };
-    let mut text = text_of(alloc, first)?;
-    text.append(Bytes::from_slice(alloc, b" and ")?)?;
-    text.append(text_of(alloc, second)?)?;
-    Ok(Some(text))
+    shown(alloc, first, out)?;
+    out.push_str(" and ")?;
+    shown(alloc, second, out)
 }
 
 /// What an operator of two arguments answers.
-fn of_two(alloc: Global, operator: &str, first: &Value, second: &Value) -> Answer {
-    match (&first.form, &second.form) {
-        _ if operator == "compare" => word(alloc, order_word(compare(first, second))),
-        _ if operator == "pair" => paired(alloc, first, second),
-        (Form::Int(from), Form::Int(to)) if operator == "integers" => {
-            listed(alloc, integers(alloc, *from, *to)?)
-        }
-        (Form::Set(s), _) if is_ascending(s.as_slice()) => of_set(alloc, operator, s, second),
-        _ => Ok(None),
+fn of_two(
+    alloc: Global,
+    operator: &str,
+    first: &Value,
+    second: &Value,
+    out: &mut String,
+) -> Answer {
+    match operator {
+        "compare" => word(order_word(compare(first, second)), out),
+        "pair" => paired(alloc, first, second, out),
+        "integers" => between(alloc, first, second, out),
+        _ => of_set(alloc, operator, first, second, out),
     }
 }
 
-fn paired(alloc: Global, first: &Value, second: &Value) -> Answer {
-    let pair = Value::pair(alloc, first.copied(alloc)?, second.copied(alloc)?)?;
-    Ok(Some(text_of(alloc, &pair)?))
+fn paired(alloc: Global, first: &Value, second: &Value, out: &mut String) -> Answer {
+    let first = Boxed::new(alloc, first.copied(alloc)?)?;
+    let second = second.copied(alloc)?;
+    let pair = Value::pair(alloc, first.into_inner(), second)?;
+    shown(alloc, &pair, out)
+}
+
+fn between(alloc: Global, first: &Value, second: &Value, out: &mut String) -> Answer {
+    match (&first.form, &second.form) {
+        (Form::Int(from), Form::Int(to)) => listed(alloc, integers(alloc, *from, *to), out),
+        _ => Ok(false),
+    }
 }
 
 fn order_word(order: Ordering) -> &'static str {
@@ -194,26 +232,53 @@ fn order_word(order: Ordering) -> &'static str {
 }
 
 /// What an operator on a set and any value answers.
-fn of_set(alloc: Global, operator: &str, s: &Values, value: &Value) -> Answer
+fn of_set(
+    alloc: Global,
+    operator: &str,
+    first: &Value,
+    second: &Value,
+    out: &mut String,
+) -> Answer {
+    match &first.form {
+        Form::Set(s) if is_ascending(s.as_slice()) => {
+            of_ascending(alloc, operator, s, second, out)
+        }
+        _ => Ok(false),
+    }
+}
+
+fn of_ascending(
+    alloc: Global,
+    operator: &str,
+    s: &Values,
+    value: &Value,
+    out: &mut String,
+) -> Answer
     requires { rises s.now ≡ true }
 {
     match &value.form {
-        _ if operator == "contains" => truth(alloc, contains(s, value)),
-        _ if operator == "apply" => match apply(s, value) {
-            Some(image) => Ok(Some(text_of(alloc, image)?)),
-            None => word(alloc, "none"),
-        },
-        Form::Set(t) if is_ascending(t.as_slice()) => of_sets(alloc, operator, s, t),
-        _ => Ok(None),
+        _ if operator == "contains" => truth(contains(s, value), out),
+        _ if operator == "apply" => applied(alloc, s, value, out),
+        Form::Set(t) if is_ascending(t.as_slice()) => of_sets(alloc, operator, s, t, out),
+        _ => Ok(false),
+    }
+}
+
+fn applied(alloc: Global, s: &Values, value: &Value, out: &mut String) -> Answer
+    requires { rises s.now ≡ true }
+{
+    match apply(s, value) {
+        Some(image) => shown(alloc, image, out),
+        None => word("none", out),
     }
 }
 
 /// What an operator on two sets answers.
-fn of_sets(alloc: Global, operator: &str, a: &Values, b: &Values) -> Answer
+fn of_sets(alloc: Global, operator: &str, a: &Values, b: &Values, out: &mut String) -> Answer
     requires first { rises a.now ≡ true }
     requires second { rises b.now ≡ true }
 {
-    let result = match operator {
+    let members = match operator {
         "union" => union(alloc, a, b),
         "meet" => meet(alloc, a, b),
         "minus" => minus(alloc, a, b),
@@ -227,7 +292,7 @@ fn of_sets(alloc: Global, operator: &str, a: &Values, b: &Values) -> Answer
         "compose" => compose(alloc, a, b),
         "direct" => direct(alloc, a, b),
         "parallel" => parallel(alloc, a, b),
-        _ => return Ok(None),
+        _ => return Ok(false),
     };
-    listed(alloc, result?)
+    listed(alloc, members, out)
 }

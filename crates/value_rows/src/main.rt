@@ -12,13 +12,12 @@ mod answers;
 mod setting;
 mod types;
 
-use answers::{Answer, of_type, of_values, read_again, truth, typed};
-use eb_names::Bytes;
-use eb_value::{EbType, Scope, Value, same_type};
-use setting::{nothing, scope_of, value_of};
+use answers::{Answer, of_read, of_types, word};
+use eb_value::{EbType, Scope};
+use setting::{nothing, set_scope, values_of};
 use std::alloc::{AllocError, Global};
 use std::{env, fs, io};
-use types::type_of;
+use types::types_of;
 
 /// The parts of a row.
 fn fields_of<'a>(alloc: Global, line: &'a str) -> Result<Vec<&'a str>, AllocError> {
@@ -29,13 +28,21 @@ fn fields_of<'a>(alloc: Global, line: &'a str) -> Result<Vec<&'a str>, AllocErro
     Ok(fields)
 }
 
-/// What the library answers to an operator, the types that a field names, and arguments.
-fn answer(alloc: Global, scope: &Scope, operator: &str, types: &str, arguments: &[&str]) -> Answer {
-    let (first, second) = types.split_once(", ").unwrap_or((types, types));
-    let (Some(first), Some(second)) = (type_of(alloc, first)?, type_of(alloc, second)?) else {
-        return Ok(None);
-    };
-    answer_at(alloc, scope, operator, (&first, &second), arguments)
+/// Writes what the library answers to an operator, the types that a field names, and arguments. False where
+/// that is no row.
+fn answer(
+    alloc: Global,
+    scope: &Scope,
+    (operator, types): (&str, &str),
+    arguments: &[&str],
+    out: &mut String,
+) -> Answer {
+    let types = types_of(alloc, types)?;
+    match types.as_slice() {
+        [ty] => answer_at(alloc, scope, operator, (ty, ty), arguments, out),
+        [second, first] => answer_at(alloc, scope, operator, (first, second), arguments, out),
+        _ => Ok(false),
+    }
 }
 
 fn answer_at(
@@ -44,53 +51,19 @@ fn answer_at(
     operator: &str,
     (first, second): (&EbType, &EbType),
     arguments: &[&str],
+    out: &mut String,
 ) -> Answer {
-    match arguments {
-        [] if operator == "same_type" => truth(alloc, same_type(first, second)),
-        [] => of_type(alloc, scope, operator, first),
-        [text] if operator == "reads" => read_again(alloc, scope, first, text),
-        [text] if operator == "has_type" => typed(alloc, scope, first, second, text),
-        [text, others @ ..] => {
-            let mut values = Vec::new(alloc);
-            if push_read(alloc, scope, first, text, &mut values)?
-                && push_all_read(alloc, scope, second, others, &mut values)?
-            {
-                return of_values(alloc, operator, values.as_slice());
-            }
-            Ok(None)
-        }
+    if arguments.is_empty() {
+        return of_types(alloc, scope, operator, (first, second), out);
     }
-}
-
-/// Adds the value of the type whose text this is, and tells whether there is one.
-fn push_read(
-    alloc: Global,
-    scope: &Scope,
-    ty: &EbType,
-    text: &str,
-    values: &mut Vec<Value>,
-) -> Result<bool, AllocError> {
-    match value_of(alloc, scope, ty, text.as_bytes())? {
-        Some(value) => values.push(value)?,
-        None => return Ok(false),
+    let values = values_of(alloc, scope, (first, second), arguments)?;
+    if values.len() == arguments.len() {
+        of_read(alloc, scope, operator, second, values.as_slice(), out)
+    } else if operator == "reads" {
+        word("none", out)
+    } else {
+        Ok(false)
     }
-    Ok(true)
-}
-
-/// The same of each of the texts.
-fn push_all_read(
-    alloc: Global,
-    scope: &Scope,
-    ty: &EbType,
-    texts: &[&str],
-    values: &mut Vec<Value>,
-) -> Result<bool, AllocError> {
-    for text in texts {
-        if !push_read(alloc, scope, ty, text, values)? {
-            return Ok(false);
-        }
-    }
-    Ok(true)
 }
 
 /// Whether an answer is what is wanted.
@@ -116,7 +89,23 @@ fn is_blank(line: &str) -> bool {
     line.is_empty() || line.starts_with("//")
 }
 
-/// Judges the row of these fields, and prints it where its answer differs from what is wanted.
+/// Writes the answer to the row of these fields, and tells whether it is what the row wants.
+fn is_right(
+    alloc: Global,
+    scope: &Scope,
+    fields: &[&str],
+    came: &mut String,
+) -> Result<bool, AllocError> {
+    if let [operator, types, arguments @ .., want] = fields {
+        if answer(alloc, scope, (operator, types), arguments, came)? {
+            return Ok(agrees(came.as_bytes(), want));
+        }
+    }
+    came.push_str("no row")?;
+    Ok(false)
+}
+
+/// Judges a row, and prints it with what came where that differs from what is wanted.
 fn judge(
     rt: &HostRuntime,
     scope: &Scope,
@@ -125,32 +114,21 @@ fn judge(
     tally: &mut Tally,
 ) -> io::Result<()> {
     tally.rows = tally.rows.saturating_add(1);
-    if let [operator, types, arguments @ .., want] = fields {
-        if let Some(answer) = answer(rt.alloc(), scope, operator, types, arguments)? {
-            if agrees(answer.as_slice(), want) {
-                return Ok(());
-            }
-            return differs(rt, line, answer.as_slice(), tally);
-        }
+    let mut came = String::new(rt.alloc());
+    if is_right(rt.alloc(), scope, fields, &mut came)? {
+        return Ok(());
     }
-    differs(rt, line, b"no row", tally)
-}
-
-/// Counts and prints a row that differs, with what came.
-fn differs(rt: &HostRuntime, line: &str, came: &[u8], tally: &mut Tally) -> io::Result<()> {
     tally.differ = tally.differ.saturating_add(1);
-    let text = String::from_utf8_lossy(rt.alloc(), came)?;
-    println!(rt; "{}: {}", line, text.as_str())
+    println!(rt; "{}: {}", line, came.as_str())
 }
 
 /// Takes the scope that a line sets, or judges the row that it is.
 fn take_line(rt: &HostRuntime, scope: &mut Scope, line: &str, tally: &mut Tally) -> io::Result<()> {
     let fields = fields_of(rt.alloc(), line)?;
-    match scope_of(rt.alloc(), fields.as_slice())? {
-        Some(next) => *scope = next,
-        None => return judge(rt, scope, line, fields.as_slice(), tally),
+    if set_scope(rt.alloc(), scope, fields.as_slice())? {
+        return Ok(());
     }
-    Ok(())
+    judge(rt, scope, line, fields.as_slice(), tally)
 }
 
 fn judge_all(rt: &HostRuntime, text: &str, tally: &mut Tally) -> io::Result<()> {
@@ -163,11 +141,15 @@ fn judge_all(rt: &HostRuntime, text: &str, tally: &mut Tally) -> io::Result<()> 
     Ok(())
 }
 
+fn judge_file(rt: &HostRuntime, file: &str, tally: &mut Tally) -> io::Result<()> {
+    let text = fs::read_to_string(rt, file)?;
+    judge_all(rt, text.as_str(), tally)
+}
+
 fn main(rt: HostRuntime) -> io::Result<()> {
     let mut tally = Tally { rows: 0, differ: 0 };
     for file in env::args(&rt)?.skip(1) {
-        let text = fs::read_to_string(&rt, file.as_str())?;
-        judge_all(&rt, text.as_str(), &mut tally)?;
+        judge_file(&rt, file.as_str(), &mut tally)?;
     }
     println!(rt; "{} rows, {} differ", tally.rows, tally.differ)
 }

@@ -3,14 +3,16 @@ ghost use Rattle.std.specs.Prelude.{Some};
 use cbc_outside::{Failed, MemSink, MemSource, Sink, Source};
 use eb_names::Name;
 
-/// Files that are read one byte a call.
+/// Files that are read one byte a call, where they are slow.
 #[derive(Drop)]
-pub struct SlowSource {
+pub struct PacedSource {
     /// The files.
     pub inner: MemSource,
+    /// Whether they are slow.
+    pub is_slow: bool,
 }
 
-impl Source for SlowSource {
+impl Source for PacedSource {
     ghost files = { λ s. Some s.inner.files };
 
     ghost opened = { λ s. s.inner.opened };
@@ -29,30 +31,33 @@ impl Source for SlowSource {
 
     fn read(&mut self, into: &mut [u8]) -> Result<usize, Failed> {
         match into {
-            [first, ..] => {
+            [first, ..] if self.is_slow => {
                 let mut byte = [*first];
                 let count = self.inner.read(&mut byte)?;
                 *first = byte[0];
                 Ok(count)
             }
-            [] => self.inner.read(into),
+            _ => self.inner.read(into),
         }
     }
 }
 
-/// A room for bytes that takes one a call.
+/// A room for bytes that takes one a call, where it is slow.
 #[derive(Drop)]
-pub struct SlowSink {
+pub struct PacedSink {
     /// The room.
     pub inner: MemSink,
+    /// Whether it is slow.
+    pub is_slow: bool,
 }
 
-impl Sink for SlowSink {
+impl Sink for PacedSink {
     ghost taken = { λ s. Some s.inner.taken };
 
     ghost faults = { λ s. s.inner.faults };
 
     fn write(&mut self, piece: &[u8]) -> Result<usize, Failed> {
-        self.inner.write(&piece[..piece.len().min(1)])
+        let most = if self.is_slow { 1 } else { piece.len() };
+        self.inner.write(&piece[..piece.len().min(most)])
     }
 }
