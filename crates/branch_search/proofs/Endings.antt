@@ -3,19 +3,21 @@ use Rattle.std.proofs.Common.{◌≡◌, ◌∙◌, sym, ap, refl, subst, ℕ, z
 use Rattle.std.specs.Int.{int_gap}
 use Rattle.std.proofs.lemmas.Int.{ints}
 use Rattle.eb_value.specs.declared.scope.Scope.{Scope}
+use Rattle.eb_value.specs.declared.value.Value.{Value}
 use Rattle.eb_value.specs.Values.{int}
 use Rattle.eb_term.specs.declared.problem.Choice.{Choice}
 use Rattle.eb_term.specs.declared.problem.Problem.{Problem}
-use Rattle.eb_meaning.specs.Problems.{IsValuation}
+use Rattle.eb_meaning.specs.Problems.{IsValuation, AreDefinitionsNamed}
 use Rattle.int_dom.specs.Intervals.{size}
 use Rattle.occ_store.specs.Stores.{Store, IsFirst, single_values, volume, valuation_count}
 use Rattle.tree_form.specs.declared.line.Line.{Line}
-use Rattle.tree_checker.specs.Trees.{Tree, Holds, lines_of, opens, splits_of, OpensAreLoose}
+use Rattle.tree_checker.specs.Trees.{Tree, facts_of, Holds, lines_of, opens, splits_of, OpensAreLoose}
 use Rattle.tree_checker.specs.Verdicts.{LeadsTo}
 use Rattle.branch_search.specs.declared.depth_first.Answer.{Answer}
 use Rattle.branch_search.specs.declared.depth_first.Answer.TheVariants as answer
 use Rattle.branch_search.specs.Search.{Answers}
 use Rattle.branch_search.specs.steps.Going.{IsWithin, Ends}
+use Rattle.branch_search.proofs.Defined.{all_defined}
 
 some_factors : (a b : ℕ) → 0 < a * b → (0 < a) × (0 < b)
 some_factors zero b h = absurd (omega arith)
@@ -52,21 +54,32 @@ valuation scope (c ∷ choices) (d ∷ first) [] is within = absurd within
 valuation scope (c ∷ choices) (d ∷ first) (e ∷ store) is (low, some, high, within) =
     ((is.0 (int e.lo)).0 (record { number = e.lo; is_number = refl; above = low; below = omega (arith, ints, some, high) }), valuation scope choices first store is.1 within)
 
-abbrev TreeOf : Problem → Store → List Line → Type 0
-TreeOf problem first lines = (tree : Tree) × Holds problem.facts first tree × (lines_of tree ≡ lines)
+valuation_length : (scope : Scope) (choices : List Choice) (values : List Value) → IsValuation scope choices values → length values ≡ length choices
+valuation_length scope [] [] is = refl
+valuation_length scope [] (v ∷ values) is = absurd is
+valuation_length scope (c ∷ choices) [] is = absurd is
+valuation_length scope (c ∷ choices) (v ∷ values) is = ap suc (valuation_length scope choices values is.1)
 
-pub answered : (scope : Scope) (problem : Problem) (first : Store) (budget : ℕ) (result : Answer) → IsFirst scope problem.choices first
-    → ((lines : List Line) → LeadsTo problem.facts (first ∷ []) lines [] → TreeOf problem first lines)
-    → ((tree : Tree) → Holds problem.facts first tree → OpensAreLoose (first ∷ []) (lines_of tree) → splits_of (lines_of tree) + opens (lines_of tree) + 1 ≤ valuation_count scope problem.choices)
-    → Ends problem.facts first budget result → Answers scope problem budget result
-answered scope problem first budget (answer.Found values) is trees fewer (store, within, solved) =
-    (subst (IsValuation scope problem.choices) (sym solved.are_values) (valuation scope problem.choices first store is within), solved.all)
-answered scope problem first budget (answer.Refuted lines) is trees fewer (leads, closed, within) =
+abbrev TreeOf : Scope → Problem → Store → List Line → Type 0
+TreeOf scope problem first lines = (tree : Tree) × Holds (facts_of scope problem) first tree × (lines_of tree ≡ lines)
+
+pub answered : (scope : Scope) (problem : Problem) (first : Store) (budget : ℕ) (result : Answer) → IsFirst scope problem.choices first → AreDefinitionsNamed problem
+    → ((lines : List Line) → LeadsTo (facts_of scope problem) (first ∷ []) lines [] → TreeOf scope problem first lines)
+    → ((tree : Tree) → Holds (facts_of scope problem) first tree → OpensAreLoose (first ∷ []) (lines_of tree) → splits_of (lines_of tree) + opens (lines_of tree) + 1 ≤ valuation_count scope problem.choices)
+    → Ends (facts_of scope problem) first budget result → Answers scope problem budget result
+answered scope problem first budget (answer.Found values) is named trees fewer (store, within, solved) =
+    let valued : IsValuation scope problem.choices values = subst (IsValuation scope problem.choices) (sym solved.are_values) (valuation scope problem.choices first store is within) in
+    record {
+      valuation = valued;
+      defined = all_defined scope problem values (valuation_length scope problem.choices values valued) named solved.all;
+      facts = solved.all;
+    }
+answered scope problem first budget (answer.Refuted lines) is named trees fewer (leads, closed, within) =
     let t = trees lines leads in
     let tree = t.0 in
     let same : lines_of tree ≡ lines = t.2 in
     (tree, record { first = first; is_first = is; holds = t.1; closed = ap opens same ∙ closed; within = subst (λ z. splits_of z ≤ budget) (sym same) within }, sym same)
-answered scope problem first budget (answer.Undecided lines) is trees fewer (leads, loose, left_open, spent) =
+answered scope problem first budget (answer.Undecided lines) is named trees fewer (leads, loose, left_open, spent) =
     let t = trees lines leads in
     let tree = t.0 in
     let same : lines_of tree ≡ lines = t.2 in

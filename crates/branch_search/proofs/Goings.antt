@@ -5,7 +5,6 @@ use Rattle.std.specs.List.{AllByRecursion, list_all}
 use Rattle.std.specs.Int.{int_min, int_max}
 use Rattle.std.specs.Ordering.{int_eq}
 use Rattle.std.proofs.lemmas.Int.{ints, clamps}
-use Rattle.eb_term.specs.declared.term.Term.{Term}
 use Rattle.int_dom.specs.declared.interval.Interval.{Interval}
 use Rattle.int_dom.specs.declared.interval.Halves.{Halves}
 use Rattle.int_dom.specs.Intervals.{is_empty, is_single, at_most, above, has_parts, AreHalves}
@@ -14,19 +13,19 @@ use Rattle.occ_store.specs.Stores.{Store}
 use Rattle.occ_store.specs.Boxes.{HasChoice, split_first, after_first}
 use Rattle.tree_form.specs.declared.line.Line.{Line}
 use Rattle.tree_form.specs.declared.line.Line.TheVariants as line
-use Rattle.tree_checker.specs.Trees.{Fits, parts_of, is_open, is_split, opens, splits_of, OpensAreLoose}
+use Rattle.tree_checker.specs.Trees.{Facts, Fits, parts_of, is_open, is_split, opens, splits_of, OpensAreLoose}
 use Rattle.tree_checker.specs.Verdicts.{LeadsTo}
 use Rattle.branch_search.specs.steps.Going.{IsWithin, IsGoing}
 
 -- ---- a line more
 
-leads_more : (facts : List Term) (stores : List Store) (lines : List Line) (next : Line) (store : Store) (more : List Store)
+leads_more : (facts : Facts) (stores : List Store) (lines : List Line) (next : Line) (store : Store) (more : List Store)
     → LeadsTo facts stores lines (store ∷ more) → Fits facts store next → LeadsTo facts stores (lines ++ (next ∷ [])) (parts_of store next ++ more)
 leads_more facts stores [] next store more same fits = subst (λ z. LeadsTo facts z (next ∷ []) (parts_of store next ++ more)) (sym same) (fits, refl)
 leads_more facts [] (l ∷ lines) next store more leads fits = absurd leads
 leads_more facts (s ∷ stores) (l ∷ lines) next store more (here, leads) fits = (here, leads_more facts (parts_of s l ++ stores) lines next store more leads fits)
 
-loose_more : (facts : List Term) (stores : List Store) (lines : List Line) (next : Line) (store : Store) (more : List Store)
+loose_more : (facts : Facts) (stores : List Store) (lines : List Line) (next : Line) (store : Store) (more : List Store)
     → LeadsTo facts stores lines (store ∷ more) → OpensAreLoose stores lines → (is_open next ≡ true → list_all is_single store ≡ false)
     → OpensAreLoose stores (lines ++ (next ∷ []))
 loose_more facts [] [] next store more same loose is = absurd (cc)
@@ -85,7 +84,7 @@ same_int a = omega (arith, ints)
 
 -- ---- what each move keeps
 
-pub going_split : (facts : List Term) (first : Store) (budget : ℕ) (store : Store) (more : List Store) (lines : List Line) (left : ℕ) (gave_up : Bool)
+pub going_split : (facts : Facts) (first : Store) (budget : ℕ) (store : Store) (more : List Store) (lines : List Line) (left : ℕ) (gave_up : Bool)
     → (k : ℕ) (d : Interval) (halves : Halves) → IsGoing facts first budget (store ∷ more) lines left gave_up → slice_get store k ≡ Some d → AreHalves d halves → 0 < left
     → IsGoing facts first budget (split_first k halves.low halves.high (store ∷ more)) (lines ++ (line.Split k halves.middle ∷ [])) (left - 1) gave_up
 going_split facts first budget store more lines left gave_up k d halves g at h some =
@@ -115,7 +114,7 @@ going_split facts first budget store more lines left gave_up k d halves g at h s
     still_none lines next left true shut some (a, b) = absurd (omega (arith, some, b))
     still_none lines next left false shut some none = opens_more lines next ∙ ap₂ (λ a b. a + cond b 1 0) none shut
 
-pub going_open : (facts : List Term) (first : Store) (budget : ℕ) (store : Store) (more : List Store) (lines : List Line) (left : ℕ) (gave_up : Bool)
+pub going_open : (facts : Facts) (first : Store) (budget : ℕ) (store : Store) (more : List Store) (lines : List Line) (left : ℕ) (gave_up : Bool)
     → IsGoing facts first budget (store ∷ more) lines left gave_up → list_all is_single store ≡ false → left ≡ 0
     → IsGoing facts first budget (after_first (store ∷ more)) (lines ++ (line.Open ∷ [])) left true
 going_open facts first budget store more lines left gave_up g loose none =
@@ -130,7 +129,7 @@ going_open facts first budget store more lines left gave_up g loose none =
       opens = (omega arith, none);
     }
 
-pub going_eval : (facts : List Term) (first : Store) (budget : ℕ) (store : Store) (more : List Store) (lines : List Line) (left : ℕ) (gave_up : Bool) (fact : ℕ)
+pub going_eval : (facts : Facts) (first : Store) (budget : ℕ) (store : Store) (more : List Store) (lines : List Line) (left : ℕ) (gave_up : Bool) (fact : ℕ)
     → IsGoing facts first budget (store ∷ more) lines left gave_up → Fits facts store (line.Eval fact)
     → IsGoing facts first budget (after_first (store ∷ more)) (lines ++ (line.Eval fact ∷ [])) left gave_up
 going_eval facts first budget store more lines left gave_up fact g fits =
@@ -149,7 +148,7 @@ going_eval facts first budget store more lines left gave_up fact g fits =
     still true left lines more e (a, b) = (omega (arith, a, e), b)
     still false left lines more e none = omega (arith, none, e)
 
-pub going_first : (facts : List Term) (first : Store) (budget : ℕ) → IsWithin first first → IsGoing facts first budget (first ∷ []) [] budget false
+pub going_first : (facts : Facts) (first : Store) (budget : ℕ) → IsWithin first first → IsGoing facts first budget (first ∷ []) [] budget false
 going_first facts first budget within = record { leads = refl; loose = tt; within = (within, tt); splits = omega arith; opens = refl }
 
 pub same_length : (first store : Store) → IsWithin first store → length store ≡ length first
@@ -193,21 +192,21 @@ within_list (e ∷ store) (suc k) d at = let more = within_list store k d at in 
 pub has_choice : (store : Store) (more boxes : List Store) (k : ℕ) (d : Interval) → boxes ≡ store ∷ more → slice_get store k ≡ Some d → HasChoice boxes k
 has_choice store more boxes k d e at = subst (λ z. HasChoice z k) (sym e) (within_list store k d at)
 
-pub split_going : (facts : List Term) (first : Store) (budget : ℕ) (boxes : List Store) (store : Store) (more : List Store) (lines : List Line) (left : ℕ) (gave_up : Bool)
+pub split_going : (facts : Facts) (first : Store) (budget : ℕ) (boxes : List Store) (store : Store) (more : List Store) (lines : List Line) (left : ℕ) (gave_up : Bool)
     → (k : ℕ) (d : Interval) (halves : Halves) → boxes ≡ store ∷ more → IsGoing facts first budget boxes lines left gave_up → slice_get store k ≡ Some d → AreHalves d halves → 0 < left
     → IsGoing facts first budget (split_first k halves.low halves.high boxes) (lines ++ (line.Split k halves.middle ∷ [])) (left - 1) gave_up
 split_going facts first budget boxes store more lines left gave_up k d halves e g at h some =
     subst (λ z. IsGoing facts first budget (split_first k halves.low halves.high z) (lines ++ (line.Split k halves.middle ∷ [])) (left - 1) gave_up) (sym e)
     (going_split facts first budget store more lines left gave_up k d halves (subst (λ z. IsGoing facts first budget z lines left gave_up) e g) at h some)
 
-pub open_going : (facts : List Term) (first : Store) (budget : ℕ) (boxes : List Store) (store : Store) (more : List Store) (lines : List Line) (left : ℕ) (gave_up : Bool)
+pub open_going : (facts : Facts) (first : Store) (budget : ℕ) (boxes : List Store) (store : Store) (more : List Store) (lines : List Line) (left : ℕ) (gave_up : Bool)
     → boxes ≡ store ∷ more → IsGoing facts first budget boxes lines left gave_up → list_all is_single store ≡ false → left ≡ 0
     → IsGoing facts first budget (after_first boxes) (lines ++ (line.Open ∷ [])) left true
 open_going facts first budget boxes store more lines left gave_up e g loose none =
     subst (λ z. IsGoing facts first budget (after_first z) (lines ++ (line.Open ∷ [])) left true) (sym e)
     (going_open facts first budget store more lines left gave_up (subst (λ z. IsGoing facts first budget z lines left gave_up) e g) loose none)
 
-pub eval_going : (facts : List Term) (first : Store) (budget : ℕ) (boxes : List Store) (store : Store) (more : List Store) (lines : List Line) (left : ℕ) (gave_up : Bool) (fact : ℕ)
+pub eval_going : (facts : Facts) (first : Store) (budget : ℕ) (boxes : List Store) (store : Store) (more : List Store) (lines : List Line) (left : ℕ) (gave_up : Bool) (fact : ℕ)
     → boxes ≡ store ∷ more → IsGoing facts first budget boxes lines left gave_up → Fits facts store (line.Eval fact)
     → IsGoing facts first budget (after_first boxes) (lines ++ (line.Eval fact ∷ [])) left gave_up
 eval_going facts first budget boxes store more lines left gave_up fact e g fits =

@@ -4,7 +4,7 @@ use Rattle.eb_value.specs.declared.scope.Scope.{Scope}
 use Rattle.eb_term.specs.declared.problem.Problem.{Problem}
 use Rattle.eb_meaning.specs.Problems.{IsSolution}
 use Rattle.occ_store.specs.Stores.{Store, IsFirst, valuation_count}
-use Rattle.tree_checker.specs.Trees.{Tree, Holds, OpensAreLoose, lines_of, opens, splits_of}
+use Rattle.tree_checker.specs.Trees.{Tree, facts_of, Holds, OpensAreLoose, lines_of, opens, splits_of}
 use Rattle.branch_search.specs.declared.depth_first.Answer.{Answer}
 use Rattle.branch_search.specs.declared.depth_first.Answer.TheVariants as answer
 
@@ -12,7 +12,7 @@ use Rattle.branch_search.specs.declared.depth_first.Answer.TheVariants as answer
 pub record IsRefutation (scope : Scope) (problem : Problem) (budget : ℕ) (tree : Tree) : Type 0 where
   pub first : Store
   pub is_first : IsFirst scope problem.choices first
-  pub holds : Holds problem.facts first tree
+  pub holds : Holds (facts_of scope problem) first tree
   pub closed : opens (lines_of tree) ≡ 0
   pub within : splits_of (lines_of tree) ≤ budget
 
@@ -22,7 +22,7 @@ pub record IsRefutation (scope : Scope) (problem : Problem) (budget : ℕ) (tree
 pub record IsUndecided (scope : Scope) (problem : Problem) (budget : ℕ) (tree : Tree) : Type 0 where
   pub first : Store
   pub is_first : IsFirst scope problem.choices first
-  pub holds : Holds problem.facts first tree
+  pub holds : Holds (facts_of scope problem) first tree
   pub left_open : 0 < opens (lines_of tree)
   pub loose : OpensAreLoose (first ∷ []) (lines_of tree)
   pub spent : splits_of (lines_of tree) ≡ budget

@@ -11,7 +11,7 @@ use Rattle.eb_term.specs.declared.problem.Problem.{Problem}
 use Rattle.occ_store.specs.Stores.{Store, IsFirst, HaveIntegers}
 use Rattle.tree_form.specs.Lines.{has_small_numbers}
 use Rattle.tree_checker.specs.declared.verdict.Verdict.TheVariants as verdict
-use Rattle.tree_checker.specs.Trees.{Tree, Holds, lines_of, opens}
+use Rattle.tree_checker.specs.Trees.{Tree, facts_of, Holds, lines_of, opens}
 use Rattle.tree_checker.specs.Texts.{IsPrinted, IsWholeText, IsVerdict, task_of, tree_text, is_one_line, is_header_line}
 use Rattle.branch_search.specs.Search.{IsRefutation, IsUndecided}
 use Rattle.linear_models.specs.declared.syntax.LinearModel.{LinearModel}
@@ -49,12 +49,12 @@ abbrev pub SmallTrees : Type 0
 SmallTrees = (scope : Scope) → (problem : Problem) → (first : Store) → (tree : Tree)
     → HaveIntegers problem.choices → scope.lo ≤ℤ scope.hi → in_range scope.lo ≡ true → in_range scope.hi ≡ true
     → length problem.choices < 2 ^ 32 → length problem.facts ≤ 2 ^ 62
-    → IsFirst scope problem.choices first → Holds problem.facts first tree → list_all has_small_numbers (lines_of tree) ≡ true
+    → IsFirst scope problem.choices first → Holds (facts_of scope problem) first tree → list_all has_small_numbers (lines_of tree) ≡ true
 
 abbrev pub PrintedTexts : Type 0
-PrintedTexts = (problem : Problem) → (first : Store) → (text : List ℕ) → (count : ℕ) → IsPrinted (task_of problem first) text count → IsWholeText (task_of problem first) text count
+PrintedTexts = (scope : Scope) → (problem : Problem) → (first : Store) → (text : List ℕ) → (count : ℕ) → IsPrinted (task_of scope problem first) text count → IsWholeText (task_of scope problem first) text count
 
-are_small : SmallTrees → (t : LinearModel) (first : Store) (tree : Tree) → is_well_formed t ≡ true → IsFirst (scope_of t) (problem_of t).choices first → Holds (problem_of t).facts first tree
+are_small : SmallTrees → (t : LinearModel) (first : Store) (tree : Tree) → is_well_formed t ≡ true → IsFirst (scope_of t) (problem_of t).choices first → Holds (facts_of (scope_of t) (problem_of t)) first tree
     → list_all has_small_numbers (lines_of tree) ≡ true
 are_small small t first tree is is_first holds =
     let scope = well_formed_scope t is in
@@ -66,7 +66,7 @@ pub refuted_verdict : SmallTrees → PrintedTexts → (t : LinearModel) (budget 
 refuted_verdict small printed t budget tree is r = (
   r.first,
   r.is_first,
-  printed (problem_of t) r.first (refuted_text tree) 0 (record {
+  printed (scope_of t) (problem_of t) r.first (refuted_text tree) 0 (record {
     headers = codes "query axioms" ∷ (codes "refuted" ∷ []);
     are_headers = refl;
     tree = tree;
@@ -84,7 +84,7 @@ undecided_verdict small printed t budget tree fits is u = (
   u.is_first,
   (
     u.left_open,
-    printed (problem_of t) u.first (undecided_text budget tree) (opens (lines_of tree)) (record {
+    printed (scope_of t) (problem_of t) u.first (undecided_text budget tree) (opens (lines_of tree)) (record {
       headers = codes "query axioms" ∷ ((codes "undecided " ++ decimal budget) ∷ []);
       are_headers = rw (budget_header budget fits) refl;
       tree = tree;

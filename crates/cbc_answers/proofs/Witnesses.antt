@@ -1,10 +1,11 @@
 -- The solutions of a text's problem are its witnesses.
 use Rattle.std.specs.List.{list_all}
-use Rattle.std.proofs.Common.{◌≡◌, ℕ, true, not, ◌&&◌, nat_le, ◌≤◌, ◌^◌, int_le, ℤ, pos, negsuc, ◌≤ℤ◌, List, [], ◌∷◌, map, length, suc, ◌<◌, ap, refl, inl, arith}
+use Rattle.std.proofs.Common.{◌≡◌, ℕ, true, not, ◌&&◌, nat_le, ◌≤◌, ◌^◌, int_le, ℤ, pos, negsuc, ◌≤ℤ◌, List, [], ◌∷◌, map, length, suc, ◌<◌, ap, refl, inl, arith, Some}
 use Rattle.std.proofs.lemmas.Int.{ints}
 use Rattle.eb_value.specs.declared.value.Value.{Value}
 use Rattle.linear_models.specs.declared.syntax.LinearModel.{LinearModel}
-use Rattle.eb_meaning.specs.Problems.{IsSolution}
+use Rattle.eb_meaning.specs.Meaning.{is_value}
+use Rattle.eb_meaning.specs.Problems.{IsSolution, AreDefinitionsNamed}
 use Rattle.linear_models.specs.declared.syntax.Axiom.{Axiom}
 use Rattle.cbc_answers.specs.Models.{problem_of, scope_of, choice_of, axiom_fact}
 use Rattle.occ_store.specs.Stores.{HaveIntegers}
@@ -15,11 +16,19 @@ use Rattle.linear_models.specs.Language.{has_constants, has_axioms, has_scope, i
 use Rattle.cbc_answers.proofs.Bools.{both_true}
 use Rattle.cbc_answers.proofs.Narrowing.{facts_axioms, axioms_facts}
 
+all_values : (vs : List Value) → list_all is_value (map (λ v. Some v) vs) ≡ true
+all_values [] = refl
+all_values (v ∷ vs) = all_values vs
+
 pub solution_witness : (t : LinearModel) (vs : List Value) → IsSolution (scope_of t) (problem_of t) vs → IsWitness t vs
-solution_witness t vs s = record { valuation = s.0; all = facts_axioms t.context.constants t.context.axioms vs s.1 }
+solution_witness t vs s = record { valuation = s.valuation; all = facts_axioms (scope_of t) t.context.constants t.context.axioms vs s.facts }
 
 pub witness_solution : (t : LinearModel) (vs : List Value) → IsWitness t vs → IsSolution (scope_of t) (problem_of t) vs
-witness_solution t vs w = (w.valuation, axioms_facts t.context.constants t.context.axioms vs w.all)
+witness_solution t vs w = record { valuation = w.valuation; defined = all_values vs; facts = axioms_facts (scope_of t) t.context.constants t.context.axioms vs w.all }
+
+-- there are no definitions
+pub none_named : (t : LinearModel) → AreDefinitionsNamed (problem_of t)
+none_named t k less = absurd (omega (arith, less))
 
 have_integers : (names : List (List ℕ)) → HaveIntegers (map choice_of names)
 have_integers [] = tt

@@ -21,7 +21,7 @@ use Rattle.cbc_answers.specs.Models.{axiom_term, problem_of, scope_of}
 -- The constants have values of their types in the scope, of which each axiom is True.
 pub record IsWitness (t : LinearModel) (values : List Value) : Type 0 where
   pub valuation : IsValuation (scope_of t) (problem_of t).choices values
-  pub all : All (λ a. IsTrueOf values (axiom_term t.context.constants a)) t.context.axioms
+  pub all : All (λ a. IsTrueOf (scope_of t) [] values (axiom_term t.context.constants a)) t.context.axioms
 
 abbrev pub constant_text : List ℕ → Value → List ℕ
 constant_text name v = codes "constant " ++ (name ++ (codes " = " ++ (value_text [] v ++ codes "\n")))

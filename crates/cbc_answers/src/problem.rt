@@ -1,7 +1,10 @@
 ghost use Rattle.std.specs.Prelude.{◌≡◌, ◌<◌, ◌^◌, map, length, true, IfOk};
+ghost use Rattle.eb_value.specs.Types.{integer};
+ghost use Rattle.eb_term.specs.Terms.{reference};
 ghost use Rattle.cbc_answers.specs.Models as spec;
 
 use eb_names::Name;
+use eb_syntax::{Operator, Prefix};
 use eb_term::{Binary, Choice, Choices, Problem, Term, Terms, Unary};
 use eb_value::{Scope, Sizes};
 use linear_models::{Axiom, Comparison, Direction, LinearModel, Relation, Sum, Summand};
@@ -21,33 +24,53 @@ fn place_in(names: &[Name], name: &Name) -> u32
     0
 }
 
+/// The operator of the written language between two terms.
+fn operation(alloc: Global, operator: Operator, left: Term, right: Term) -> Result<Term, AllocError>
+    ensures { IfOk result (λ t. t ≡ spec.operation operator left right) }
+{
+    Term::binary(alloc, Binary::Operator(operator), left, right)
+}
+
+fn negated(alloc: Global, part: Term) -> Result<Term, AllocError>
+    ensures { IfOk result (λ t. t ≡ spec.negated part) }
+{
+    Term::unary(alloc, Unary::Prefix(Prefix::Not), part)
+}
+
+/// A reference to the constant with a name.
+fn constant_term(alloc: Global, names: &[Name], name: &Name) -> Result<Term, AllocError>
+    requires { length names.now < 2 ^ 32 }
+    ensures { IfOk result (λ t. t ≡ reference (spec.place_in names.now name.now) integer) }
+{
+    Term::integer_at(alloc, place_in(names, name))
+}
+
 fn summand_term(alloc: Global, names: &[Name], summand: &Summand) -> Result<Term, AllocError>
     requires { length names.now < 2 ^ 32 }
     ensures { IfOk result (λ t. t ≡ spec.summand_term names.now summand.now) }
 {
     match summand {
-        Summand::Number(n) => Ok(Term::integer(*n)),
-        Summand::Constant(name) => Ok(Term::reference(place_in(names, name))),
+        Summand::Number(n) => Term::integer(alloc, *n),
+        Summand::Constant(name) => constant_term(alloc, names, name),
         Summand::Multiple(n, name) => {
-            let constant = Term::reference(place_in(names, name));
-            let product = Term::binary(alloc, Binary::Times, Term::integer(*n), constant)?;
-            Ok(product)
+            let factor = Term::integer(alloc, *n)?;
+            let constant = constant_term(alloc, names, name)?;
+            operation(alloc, Operator::Times, factor, constant)
         }
         Summand::Product(first, second) => {
-            let first = Term::reference(place_in(names, first));
-            let second = Term::reference(place_in(names, second));
-            let product = Term::binary(alloc, Binary::Times, first, second)?;
-            Ok(product)
+            let first = constant_term(alloc, names, first)?;
+            let second = constant_term(alloc, names, second)?;
+            operation(alloc, Operator::Times, first, second)
         }
     }
 }
 
-fn operator_of(direction: Direction) -> Binary
+fn operator_of(direction: Direction) -> Operator
     ensures { result ≡ spec.operator_of direction }
 {
     match direction {
-        Direction::Plus => Binary::Plus,
-        Direction::Minus => Binary::Minus,
+        Direction::Plus => Operator::Plus,
+        Direction::Minus => Operator::Minus,
     }
 }
 
@@ -58,7 +81,7 @@ fn sum_term(alloc: Global, names: &[Name], sum: &Sum) -> Result<Term, AllocError
     let mut term = summand_term(alloc, names, &sum.first)?;
     for part in sum.rest.as_slice() {
         let summand = summand_term(alloc, names, &part.1)?;
-        term = Term::binary(alloc, operator_of(part.0), term, summand)?;
+        term = operation(alloc, operator_of(part.0), term, summand)?;
     }
     Ok(term)
 }
@@ -73,20 +96,20 @@ fn narrow_relation(
     ensures { IfOk result (λ t. t ≡ spec.narrow_relation relation left right) }
 {
     match relation {
-        Relation::AtMost => Term::binary(alloc, Binary::AtMost, left, right),
-        Relation::AtLeast => Term::binary(alloc, Binary::AtMost, right, left),
-        Relation::Equal => Term::binary(alloc, Binary::Equal, left, right),
+        Relation::AtMost => operation(alloc, Operator::AtMost, left, right),
+        Relation::AtLeast => operation(alloc, Operator::AtMost, right, left),
+        Relation::Equal => operation(alloc, Operator::Equal, left, right),
         Relation::Less => {
-            let opposite = Term::binary(alloc, Binary::AtMost, right, left)?;
-            Term::unary(alloc, Unary::Not, opposite)
+            let opposite = operation(alloc, Operator::AtMost, right, left)?;
+            negated(alloc, opposite)
         }
         Relation::Greater => {
-            let opposite = Term::binary(alloc, Binary::AtMost, left, right)?;
-            Term::unary(alloc, Unary::Not, opposite)
+            let opposite = operation(alloc, Operator::AtMost, left, right)?;
+            negated(alloc, opposite)
         }
         Relation::Unequal => {
-            let opposite = Term::binary(alloc, Binary::Equal, left, right)?;
-            Term::unary(alloc, Unary::Not, opposite)
+            let opposite = operation(alloc, Operator::Equal, left, right)?;
+            negated(alloc, opposite)
         }
     }
 }
@@ -118,7 +141,7 @@ fn conjunction_on(
     let mut term = first;
     for comparison in comparisons {
         let fact = comparison_fact(alloc, names, comparison)?;
-        term = Term::binary(alloc, Binary::And, term, fact)?;
+        term = operation(alloc, Operator::And, term, fact)?;
     }
     Ok(term)
 }
@@ -167,7 +190,11 @@ pub fn problem_of(alloc: Global, text: &LinearModel) -> Result<Problem, AllocErr
     let names = text.context.constants.as_slice();
     let choices = choices_of(alloc, names)?;
     let facts = facts_of(alloc, names, text.context.axioms.as_slice())?;
-    Ok(Problem { choices, facts })
+    Ok(Problem {
+        choices,
+        definitions: Terms::new(alloc),
+        facts,
+    })
 }
 
 /// The scope of the text's query.

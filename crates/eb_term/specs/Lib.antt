@@ -1,1 +1,4 @@
+pub mod Leaves
+pub mod Nodes
 pub mod Terms
+pub mod Typed

@@ -31,9 +31,11 @@ pub type Choices = Items<Choice>;
 
 pub type Terms = Items<Term>;
 
-/// Choices, to which the terms refer by place, and facts, which are to be true of them.
+/// Choices; definitions, each of which names an expression over the choices and the definitions before it; and facts, which
+/// are to be true. Terms refer by place to the choices and then to the definitions.
 #[derive(Drop)]
 pub struct Problem {
     pub choices: Choices,
+    pub definitions: Terms,
     pub facts: Terms,
 }

@@ -1,3 +1,4 @@
 pub mod FirstStores
 pub mod BoxLaws
 pub mod Parts
+pub mod SingleValues

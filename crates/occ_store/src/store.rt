@@ -1,5 +1,6 @@
 ghost use Rattle.std.specs.Prelude.{◌≡◌, [], ◌<◌, ◌^◌, true, false, slice_get, set, length, IfOk, MatchOption};
 ghost use Rattle.std.specs.List.{list_all};
+ghost use Rattle.eb_value.specs.Canonical.{AreCanonical};
 ghost use Rattle.int_dom.specs.Intervals as interval;
 ghost use Rattle.occ_store.specs.Places.{has_at};
 ghost use Rattle.occ_store.specs.Stores as spec;
@@ -143,7 +144,8 @@ impl Store {
     /// The lower ends of the domains. Where each domain has one value, these are the values. The
     /// only error is want of memory.
     pub fn values(&self, alloc: Global) -> Result<Values, AllocError>
-        ensures { IfOk result (λ values. values ≡ spec.single_values self.now) }
+        ensures values { IfOk result (λ values. values ≡ spec.single_values self.now) }
+        ensures canonical { IfOk result AreCanonical }
     {
         let mut values = Values::new(alloc);
         for domain in self.domains.as_slice() {

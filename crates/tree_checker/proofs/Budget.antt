@@ -5,14 +5,13 @@ use Rattle.std.specs.Ordering.{int_eq}
 use Rattle.std.proofs.Math.Nat.{mul-le-mul}
 use Rattle.std.specs.Int.{int_min, int_max, int_gap}
 use Rattle.std.proofs.lemmas.Int.{ints, clamps, by_lt_z}
-use Rattle.eb_term.specs.declared.term.Term.{Term}
 use Rattle.int_dom.specs.declared.interval.Interval.{Interval}
 use Rattle.int_dom.specs.Intervals.{is_empty, is_single, size, at_most, above, has_parts}
 use Rattle.tree_form.specs.declared.line.Line.{Line}
 use Rattle.tree_form.specs.declared.line.Line.TheVariants.{Split as split, Open as leave}
 use Rattle.occ_store.specs.Places.{has_at, changed_at}
 use Rattle.occ_store.specs.Stores.{Store, volume}
-use Rattle.tree_checker.specs.Trees.{Tree, leaf, one, two, Holds, lines_of, splits_of, opens, OpensAreLoose}
+use Rattle.tree_checker.specs.Trees.{Facts, Tree, leaf, one, two, Holds, lines_of, splits_of, opens, OpensAreLoose}
 use Rattle.tree_checker.proofs.Sound.{opens_append}
 
 gap_is : (a b : ℤ) → a ≤ℤ b → a +ℤ pos (int_gap a b) ≡ b
@@ -66,7 +65,7 @@ splits_append [] ys = omega arith
 splits_append (x ∷ xs) ys = let e = splits_append xs ys in omega arith
 
 -- a line with one part or two: here only a split, whose parts share the valuations
-pub budget : (facts : List Term) (tree : Tree) (store : Store) → 0 < volume store → Holds facts store tree → splits_of (lines_of tree) + 1 ≤ volume store
+pub budget : (facts : Facts) (tree : Tree) (store : Store) → 0 < volume store → Holds facts store tree → splits_of (lines_of tree) + 1 ≤ volume store
 budget facts (leaf (split k n)) store some (fits, parts) = absurd (cc)
 budget facts (leaf _) store some (fits, parts) = omega arith
 budget facts (one (split k n) t) store some (a, fits, parts, holds) = absurd (cc)
@@ -120,7 +119,7 @@ pub record Spent (tree : Tree) (store : Store) (stores : List Store) (rest : Lis
   pub within : splits_of (lines_of tree) + opens (lines_of tree) + 1 ≤ volume store
   pub later : OpensAreLoose stores rest
 
-spent : (facts : List Term) (tree : Tree) (store : Store) (stores : List Store) (rest : List Line) → 0 < volume store → Holds facts store tree → OpensAreLoose (store ∷ stores) (lines_of tree ++ rest) → Spent tree store stores rest
+spent : (facts : Facts) (tree : Tree) (store : Store) (stores : List Store) (rest : List Line) → 0 < volume store → Holds facts store tree → OpensAreLoose (store ∷ stores) (lines_of tree ++ rest) → Spent tree store stores rest
 spent facts (leaf (split k n)) store stores rest some (fits, parts) loose = absurd (cc)
 spent facts (leaf leave) store stores rest some (fits, parts) loose = record { within = (let two : 2 ≤ volume store = several store some (loose.0 refl) in omega arith); later = loose.1 }
 spent facts (leaf _) store stores rest some (fits, parts) loose = record { within = omega arith; later = loose.1 }
@@ -141,5 +140,5 @@ spent facts (two (split k n) t u) store stores rest some (a, b, fits, parts, fir
     record { within = omega (arith, x.within, y.within); later = y.later }
 spent facts (two _ t u) store stores rest some (a, b, fits, parts, first, second) loose = absurd (cc)
 
-pub loose_budget : (facts : List Term) (tree : Tree) (store : Store) → 0 < volume store → Holds facts store tree → OpensAreLoose (store ∷ []) (lines_of tree) → splits_of (lines_of tree) + opens (lines_of tree) + 1 ≤ volume store
+pub loose_budget : (facts : Facts) (tree : Tree) (store : Store) → 0 < volume store → Holds facts store tree → OpensAreLoose (store ∷ []) (lines_of tree) → splits_of (lines_of tree) + opens (lines_of tree) + 1 ≤ volume store
 loose_budget facts tree store some holds loose = (spent facts tree store [] [] some holds (subst (OpensAreLoose (store ∷ [])) (sym (append-nil (lines_of tree))) loose)).within

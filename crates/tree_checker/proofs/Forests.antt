@@ -2,11 +2,10 @@
 use Rattle.tree_form.specs.declared.line.Line.TheVariants.{Header as header, Begin as begin, Split as split, Clash as clash, Eval as eval, Open as leave, End as finish}
 use Rattle.tree_form.specs.declared.line.Line.{Line}
 use Rattle.std.proofs.Common.{◌≡◌, ◌≤◌, List, [], ◌∷◌, ◌++◌, length, subst, refl, append_assoc, arith}
-use Rattle.eb_term.specs.declared.term.Term.{Term}
 use Rattle.occ_store.specs.Stores.{Store}
-use Rattle.tree_checker.specs.Trees.{Fits, parts_of, Tree, leaf, one, two, Holds, lines_of}
+use Rattle.tree_checker.specs.Trees.{Facts, Fits, parts_of, Tree, leaf, one, two, Holds, lines_of}
 
-abbrev pub Forest : List Term → List Store → List Line → Type 0
+abbrev pub Forest : Facts → List Store → List Line → Type 0
 Forest facts [] lines = lines ≡ []
 Forest facts (store ∷ stores) lines = (tree : Tree) × (rest : List Line) × Holds facts store tree × (lines ≡ lines_of tree ++ rest) × Forest facts stores rest
 
@@ -15,7 +14,7 @@ some_line (leaf line) rest e = cc
 some_line (one line t) rest e = cc
 some_line (two line t u) rest e = cc
 
-pub step_in : (facts : List Term) (store : Store) (stores : List Store) (line : Line) (lines : List Line) → Forest facts (store ∷ stores) (line ∷ lines) → Fits facts store line × Forest facts (parts_of store line ++ stores) lines
+pub step_in : (facts : Facts) (store : Store) (stores : List Store) (line : Line) (lines : List Line) → Forest facts (store ∷ stores) (line ∷ lines) → Fits facts store line × Forest facts (parts_of store line ++ stores) lines
 step_in facts store stores line lines (leaf l, rest, (fits, parts), text, forest) =
     let e : l ≡ line = cc in
     let none : [] ≡ parts_of store line = cc in
@@ -39,7 +38,7 @@ few_parts store (eval k) = omega arith
 few_parts store leave = omega arith
 few_parts store finish = omega arith
 
-close : (facts : List Term) (store : Store) (stores : List Store) (line : Line) (lines : List Line) (parts : List Store) → parts_of store line ≡ parts → length parts ≤ 2 → Fits facts store line → Forest facts (parts ++ stores) lines → Forest facts (store ∷ stores) (line ∷ lines)
+close : (facts : Facts) (store : Store) (stores : List Store) (line : Line) (lines : List Line) (parts : List Store) → parts_of store line ≡ parts → length parts ≤ 2 → Fits facts store line → Forest facts (parts ++ stores) lines → Forest facts (store ∷ stores) (line ∷ lines)
 close facts store stores line lines [] e few fits forest = (leaf line, lines, (fits, e), refl, forest)
 close facts store stores line lines (a ∷ []) e few fits (t, rest, holds, text, forest) = (one line t, rest, (a, fits, e, holds), cc, forest)
 close facts store stores line lines (a ∷ b ∷ []) e few fits (t, between, first, text, (u, rest, second, text_2, forest)) =
@@ -47,10 +46,10 @@ close facts store stores line lines (a ∷ b ∷ []) e few fits (t, between, fir
     (two line t u, rest, (a, b, fits, e, first, second), cc, forest)
 close facts store stores line lines (a ∷ b ∷ c ∷ more) e few fits forest = absurd (omega arith)
 
-pub step_out : (facts : List Term) (store : Store) (stores : List Store) (line : Line) (lines : List Line) → Fits facts store line → Forest facts (parts_of store line ++ stores) lines → Forest facts (store ∷ stores) (line ∷ lines)
+pub step_out : (facts : Facts) (store : Store) (stores : List Store) (line : Line) (lines : List Line) → Fits facts store line → Forest facts (parts_of store line ++ stores) lines → Forest facts (store ∷ stores) (line ∷ lines)
 step_out facts store stores line lines fits forest = close facts store stores line lines (parts_of store line) refl (few_parts store line) fits forest
 
 -- open lines close any list
-abbrev pub leaves : (facts : List Term) (stores : List Store) → (lines : List Line) × Forest facts stores lines
+abbrev pub leaves : (facts : Facts) (stores : List Store) → (lines : List Line) × Forest facts stores lines
 leaves facts [] = ([], refl)
 leaves facts (store ∷ stores) = let rest = leaves facts stores in (leave ∷ rest.0, (leaf leave, rest.0, (tt, refl), refl, rest.1))

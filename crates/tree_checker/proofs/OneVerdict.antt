@@ -108,15 +108,15 @@ text_only problem reader task text (refused n cause) s (texts, rest, t, inr (num
 
 -- the checker's verdict from a first store, by the law that there is one
 module _ (one : (scope : Scope) (choices : List Choice) (store : Store) → HaveIntegers choices → scope.lo ≤ℤ scope.hi → IsFirst scope choices store → store ≡ first_store scope choices) where
-  suited : (scope : Scope) (problem : Problem) (first : Store) → scope.lo ≤ℤ scope.hi → HaveIntegers problem.choices → IsFirst scope problem.choices first → IsSuited problem (task_of problem first)
+  suited : (scope : Scope) (problem : Problem) (first : Store) → scope.lo ≤ℤ scope.hi → HaveIntegers problem.choices → IsFirst scope problem.choices first → IsSuited problem (task_of scope problem first)
   suited scope problem first filled integers is_first =
       let same = one scope problem.choices first integers filled is_first in
       record { facts = refl; integers = integers; count = ap length same ∙ length-map problem.choices (λ c. whole scope) }
 
-  pub verdict_is : (scope : Scope) (problem : Problem) (reader : Reader problem) (text : List ℕ) (first : Store) → scope.lo ≤ℤ scope.hi → HaveIntegers problem.choices → IsFirst scope problem.choices first → IsVerdict scope problem text (text_verdict reader.read problem first text)
-  verdict_is scope problem reader text first filled integers is_first = (first, is_first, text_exact problem reader (task_of problem first) text (suited scope problem first filled integers is_first))
+  pub verdict_is : (scope : Scope) (problem : Problem) (reader : Reader problem) (text : List ℕ) (first : Store) → scope.lo ≤ℤ scope.hi → HaveIntegers problem.choices → IsFirst scope problem.choices first → IsVerdict scope problem text (text_verdict reader.read scope problem first text)
+  verdict_is scope problem reader text first filled integers is_first = (first, is_first, text_exact problem reader (task_of scope problem first) text (suited scope problem first filled integers is_first))
 
-  pub verdict_only : (scope : Scope) (problem : Problem) (reader : Reader problem) (text : List ℕ) (first : Store) (v : Verdict) → scope.lo ≤ℤ scope.hi → HaveIntegers problem.choices → IsFirst scope problem.choices first → IsVerdict scope problem text v → text_verdict reader.read problem first text ≡ v
+  pub verdict_only : (scope : Scope) (problem : Problem) (reader : Reader problem) (text : List ℕ) (first : Store) (v : Verdict) → scope.lo ≤ℤ scope.hi → HaveIntegers problem.choices → IsFirst scope problem.choices first → IsVerdict scope problem text v → text_verdict reader.read scope problem first text ≡ v
   verdict_only scope problem reader text first v filled integers is_first (other, is_other, is) =
       let same : first ≡ other = one scope problem.choices first integers filled is_first ∙ sym (one scope problem.choices other integers filled is_other) in
-      ap (λ store. text_verdict reader.read problem store text) same ∙ text_only problem reader (task_of problem other) text v (suited scope problem other filled integers is_other) is
+      ap (λ store. text_verdict reader.read scope problem store text) same ∙ text_only problem reader (task_of scope problem other) text v (suited scope problem other filled integers is_other) is

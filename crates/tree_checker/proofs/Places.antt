@@ -1,18 +1,17 @@
 -- What the checker has come to is the place of the next line.
 use Rattle.std.proofs.Common.{◌≡◌, ℕ, suc, ◌+◌, List, [], ◌∷◌, ◌++◌, length, true, ap, sym, subst, refl, ◌∙◌, append_assoc, append-nil, arith, cond, None, Ok}
 use Rattle.std.specs.List.{list_all}
-use Rattle.eb_term.specs.declared.term.Term.{Term}
 use Rattle.tree_form.specs.declared.line.Line.{Line}
 use Rattle.tree_form.specs.declared.line.Line.TheVariants.{Header as header, Begin as begin, End as finish}
 use Rattle.occ_store.specs.Stores.{Store}
-use Rattle.tree_checker.specs.Trees.{Task, Fits, parts_of, is_header, is_open, opens}
+use Rattle.tree_checker.specs.Trees.{Facts, Task, Fits, parts_of, is_header, is_open, opens}
 use Rattle.tree_checker.specs.Verdicts.{State, heading, within, ended, Reading, fault, LeadsTo, IsInTree, IsPlace}
 use Rattle.tree_checker.specs.steps.Machine.{next, after}
 use Rattle.tree_checker.proofs.Steps.{no_fault, fits_there}
 use Rattle.tree_checker.proofs.Runs.{read_as, no_fault_first}
 
 -- a line without a fault keeps the place
-leads_more : (facts : List Term) (lines : List Line) (stores : List Store) (store : Store) (left : List Store) (line : Line) → LeadsTo facts stores lines (store ∷ left) → Fits facts store line → LeadsTo facts stores (lines ++ (line ∷ [])) (parts_of store line ++ left)
+leads_more : (facts : Facts) (lines : List Line) (stores : List Store) (store : Store) (left : List Store) (line : Line) → LeadsTo facts stores lines (store ∷ left) → Fits facts store line → LeadsTo facts stores (lines ++ (line ∷ [])) (parts_of store line ++ left)
 leads_more facts [] [] store left line leads fits = absurd (cc)
 leads_more facts [] (b ∷ stores) store left line leads fits =
     let e : store ≡ b = cc in

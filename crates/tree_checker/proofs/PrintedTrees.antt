@@ -10,13 +10,13 @@ use Rattle.std.proofs.lemmas.Int.{ints}
 use Rattle.std.proofs.lemmas.List.Folds.{list_all-append}
 use Rattle.std.proofs.lemmas.Str.Parse.{digit_at}
 use Rattle.eb_value.specs.Typing.{in_range}
+use Rattle.eb_value.specs.declared.scope.Scope.{Scope}
 use Rattle.eb_term.specs.declared.problem.Problem.{Problem}
-use Rattle.eb_term.specs.declared.term.Term.{Term}
 use Rattle.tree_form.specs.declared.line.Line.{Line}
 use Rattle.tree_form.specs.declared.line.Line.TheVariants as line
 use Rattle.tree_form.specs.Lines.{line_text, is_header, is_small, has_small_numbers, IsLine}
 use Rattle.occ_store.specs.Stores.{Store}
-use Rattle.tree_checker.specs.Trees.{Task, Tree, Fits, Holds, lines_of, opens}
+use Rattle.tree_checker.specs.Trees.{Facts, facts_of, Task, Tree, Fits, Holds, lines_of, opens}
 use Rattle.tree_checker.specs.Trees as trees
 use Rattle.tree_checker.specs.Texts.{joined, is_one_line, AreLines, IsWholeText, task_of, tree_text, is_header_line, IsPrinted}
 use Rattle.tree_checker.proofs.TextLaws.{joined_append, both}
@@ -85,9 +85,9 @@ all_headers : (headers : List (List ℕ)) → list_all trees.is_header (map (λ 
 all_headers [] = refl
 all_headers (h ∷ headers) = all_headers headers
 
-pub printed_whole : (problem : Problem) (first : Store) (tree : Tree) (headers : List (List ℕ)) → Holds problem.facts first tree → list_all has_small_numbers (lines_of tree) ≡ true → list_all is_header_line headers ≡ true
-    → IsWholeText (task_of problem first) (joined headers ++ tree_text tree) (opens (lines_of tree))
-printed_whole problem first tree headers holds small heads =
+pub printed_whole : (scope : Scope) (problem : Problem) (first : Store) (tree : Tree) (headers : List (List ℕ)) → Holds (facts_of scope problem) first tree → list_all has_small_numbers (lines_of tree) ≡ true → list_all is_header_line headers ≡ true
+    → IsWholeText (task_of scope problem first) (joined headers ++ tree_text tree) (opens (lines_of tree))
+printed_whole scope problem first tree headers holds small heads =
     let body = body_printed (lines_of tree) small in
     let tree_printed : ArePrinted (codes "tree 1" ∷ (map line_text (lines_of tree) ++ (codes "end" ∷ []))) (line.Begin ∷ (lines_of tree ++ (line.End ∷ []))) = record { each = body.each; are_lines = ((refl, refl), body.are_lines) } in
     let all = headers_printed headers (codes "tree 1" ∷ (map line_text (lines_of tree) ++ (codes "end" ∷ []))) (line.Begin ∷ (lines_of tree ++ (line.End ∷ []))) heads tree_printed in
@@ -129,7 +129,7 @@ header_texts (text ∷ texts) (line.Header ∷ lines) each all are =
 header_texts (text ∷ texts) (_ ∷ lines) each all are = absurd (cc)
 
 -- a line that fits a store has one text
-fitting_text : (facts : List Term) (store : Store) (l : Line) (text : List ℕ) → Fits facts store l → IsLine text l → (text ≡ line_text l) × (has_small_numbers l ≡ true)
+fitting_text : (facts : Facts) (store : Store) (l : Line) (text : List ℕ) → Fits facts store l → IsLine text l → (text ≡ line_text l) × (has_small_numbers l ≡ true)
 fitting_text facts store (line.Split k n) text fits is = is
 fitting_text facts store (line.Clash k) text fits is = is
 fitting_text facts store (line.Eval k) text fits is = is
@@ -155,7 +155,7 @@ own_both a b xs ys p q = record {
   small = list_all-append has_small_numbers xs ys ∙ rw p.small q.small;
 }
 
-tree_texts : (facts : List Term) (tree : Tree) (store : Store) (texts : List (List ℕ)) → Holds facts store tree → AreLines texts (lines_of tree) → AreOwn texts (lines_of tree)
+tree_texts : (facts : Facts) (tree : Tree) (store : Store) (texts : List (List ℕ)) → Holds facts store tree → AreLines texts (lines_of tree) → AreOwn texts (lines_of tree)
 tree_texts facts (trees.leaf l) store [] (fits, parts) are = absurd are
 tree_texts facts (trees.leaf l) store (text ∷ []) (fits, parts) are = one_own text l [] [] (fitting_text facts store l text fits are.0) (record { printed = refl; small = refl })
 tree_texts facts (trees.leaf l) store (text ∷ other ∷ texts) (fits, parts) are = absurd are.1
@@ -173,7 +173,7 @@ end_text [] are = absurd are
 end_text (text ∷ []) are = ap (λ z. z ∷ []) are.0.0
 end_text (text ∷ other ∷ texts) are = absurd are.1
 
-begun : (facts : List Term) (store : Store) (tree : Tree) (texts : List (List ℕ)) → Holds facts store tree → AreLines texts (line.Begin ∷ (lines_of tree ++ (line.End ∷ [])))
+begun : (facts : Facts) (store : Store) (tree : Tree) (texts : List (List ℕ)) → Holds facts store tree → AreLines texts (line.Begin ∷ (lines_of tree ++ (line.End ∷ [])))
     → (texts ≡ codes "tree 1" ∷ (map line_text (lines_of tree) ++ (codes "end" ∷ []))) × (list_all has_small_numbers (lines_of tree) ≡ true)
 begun facts store tree [] holds are = absurd are
 begun facts store tree (text ∷ texts) holds are =

@@ -8,7 +8,6 @@ use Rattle.std.proofs.lemmas.List.Folds.{list_all-append}
 use Rattle.eb_value.specs.declared.scope.Scope.{Scope}
 use Rattle.eb_value.specs.Typing.{in_range}
 use Rattle.eb_term.specs.declared.problem.Choice.{Choice}
-use Rattle.eb_term.specs.declared.term.Term.{Term}
 use Rattle.int_dom.specs.declared.interval.Interval.{Interval}
 use Rattle.int_dom.specs.Intervals.{is_empty, at_most, above, has_parts}
 use Rattle.occ_store.specs.Places.{has_at, changed_at}
@@ -16,7 +15,7 @@ use Rattle.occ_store.specs.Stores.{Store, first_store}
 use Rattle.tree_form.specs.declared.line.Line.{Line}
 use Rattle.tree_form.specs.declared.line.Line.TheVariants.{Header as header, Begin as begin, Split as split, Clash as clash, Eval as eval, Open as leave, End as finish}
 use Rattle.tree_form.specs.Lines.{is_small, has_small_numbers}
-use Rattle.tree_checker.specs.Trees.{Tree, leaf, one, two, Fits, parts_of, Holds, lines_of}
+use Rattle.tree_checker.specs.Trees.{Facts, Tree, leaf, one, two, Fits, parts_of, Holds, lines_of}
 use Rattle.tree_checker.proofs.Budget.{two_parts, at_least}
 use Rattle.tree_checker.proofs.TextLaws.{at_within, length-changed}
 
@@ -85,23 +84,23 @@ parts_are_boxes scope store begin h = tt
 parts_are_boxes scope store finish h = tt
 
 -- What is known of the scope and the facts.
-pub record HasFew (scope : Scope) (facts : List Term) : Type 0 where
+pub record HasFew (scope : Scope) (facts : Facts) : Type 0 where
   pub low : in_range scope.lo ≡ true
   pub high : in_range scope.hi ≡ true
-  pub few : length facts ≤ 2 ^ 62
+  pub few : length facts.terms ≤ 2 ^ 62
 
-line_small : (scope : Scope) (facts : List Term) (store : Store) (line : Line) → HasFew scope facts → IsBox scope store → Fits facts store line → has_small_numbers line ≡ true
+line_small : (scope : Scope) (facts : Facts) (store : Store) (line : Line) → HasFew scope facts → IsBox scope store → Fits facts store line → has_small_numbers line ≡ true
 line_small scope facts store (split k n) small box fits =
     ap₂ (λ a b. a && b) (is_small_below k (length store) (at_within (has_parts n) k store fits) box.few)
     (range_between scope n small.low small.high (between_at scope n k store box.within fits))
 line_small scope facts store (clash k) small box fits = is_small_below k (length store) (at_within is_empty k store fits) box.few
-line_small scope facts store (eval k) small box fits = is_small_below k (length facts) (at_within _ k facts fits.1) small.few
+line_small scope facts store (eval k) small box fits = is_small_below k (length facts.terms) (at_within _ k facts.terms fits.1) small.few
 line_small scope facts store leave small box fits = refl
 line_small scope facts store header small box fits = refl
 line_small scope facts store begin small box fits = refl
 line_small scope facts store finish small box fits = refl
 
-tree_small : (scope : Scope) (facts : List Term) (tree : Tree) (store : Store) → HasFew scope facts → IsBox scope store → Holds facts store tree → list_all has_small_numbers (lines_of tree) ≡ true
+tree_small : (scope : Scope) (facts : Facts) (tree : Tree) (store : Store) → HasFew scope facts → IsBox scope store → Holds facts store tree → list_all has_small_numbers (lines_of tree) ≡ true
 tree_small scope facts (leaf line) store small box (fits, parts) = ap (λ a. a && true) (line_small scope facts store line small box fits)
 tree_small scope facts (one line tree) store small box (a, fits, parts, holds) =
     let boxes = subst (AreBoxes scope) parts (parts_are_boxes scope store line box) in
@@ -116,6 +115,6 @@ first_within : (scope : Scope) (choices : List Choice) → LieWithin scope (firs
 first_within scope [] = tt
 first_within scope (c ∷ choices) = (record { low = omega (arith, ints); high = omega (arith, ints) }, first_within scope choices)
 
-pub small_numbers : (scope : Scope) (choices : List Choice) (facts : List Term) (first : Store) (tree : Tree) → HasFew scope facts → first ≡ first_store scope choices → length first ≤ 2 ^ 62 → Holds facts first tree → list_all has_small_numbers (lines_of tree) ≡ true
+pub small_numbers : (scope : Scope) (choices : List Choice) (facts : Facts) (first : Store) (tree : Tree) → HasFew scope facts → first ≡ first_store scope choices → length first ≤ 2 ^ 62 → Holds facts first tree → list_all has_small_numbers (lines_of tree) ≡ true
 small_numbers scope choices facts first tree small same few holds =
     tree_small scope facts tree first small (record { within = subst (LieWithin scope) (sym same) (first_within scope choices); few = few }) holds

@@ -8,17 +8,17 @@ use Rattle.eb_value.specs.Values.{int}
 use Rattle.eb_term.specs.declared.problem.Choice.{Choice}
 use Rattle.eb_term.specs.declared.problem.Problem.{Problem}
 use Rattle.eb_term.specs.declared.term.Term.{Term}
-use Rattle.eb_meaning.specs.declared.meaning.Truth3.{Truth3}
-use Rattle.eb_meaning.specs.declared.meaning.Truth3.TheVariants.{True}
-use Rattle.eb_meaning.specs.Meaning.{is_true, truth_in}
-use Rattle.eb_meaning.specs.Problems.{IsValuation, IsSolution, IsTrueOf, slots_of}
+use Rattle.eb_meaning.specs.declared.truth3.Truth3.{Truth3}
+use Rattle.eb_meaning.specs.declared.truth3.Truth3.TheVariants.{True}
+use Rattle.eb_meaning.specs.Truths.{is_true}
+use Rattle.eb_meaning.specs.Problems.{IsValuation, IsSolution, IsTrueOf, slots_of, fact_at}
 use Rattle.int_dom.specs.declared.interval.Interval.{Interval}
 use Rattle.int_dom.specs.Intervals.{is_empty, is_single, at_most, above}
 use Rattle.tree_form.specs.declared.line.Line.{Line}
 use Rattle.tree_form.specs.declared.line.Line.TheVariants as line
 use Rattle.occ_store.specs.Places.{has_at, changed_at}
 use Rattle.occ_store.specs.Stores.{IsIn, Store, AreIn, IsFirst, single_values}
-use Rattle.tree_checker.specs.Trees.{Tree, leaf, one, two, is_untrue, Fits, parts_of, Holds, lines_of, is_open, opens}
+use Rattle.tree_checker.specs.Trees.{Facts, facts_of, Tree, leaf, one, two, is_untrue, Fits, parts_of, Holds, lines_of, is_open, opens}
 use Rattle.tree_checker.specs.Texts.{IsAccepted}
 
 -- some store of the list has the values
@@ -61,10 +61,16 @@ only_values (d ∷ store) (v ∷ vs) e (first, rest) =
 untrue : (t : Truth3) → not (is_true t) ≡ true → t ≡ True → ⊥
 untrue t e h = absurd (true≢false (sym e ∙ ap (λ z. not (is_true z)) h))
 
-not_all : (facts : List Term) (k : ℕ) (vs : List Value) → has_at (is_untrue vs) k facts ≡ true → All (IsTrueOf vs) facts → ⊥
-not_all [] k vs e h = cc
-not_all (f ∷ facts) zero vs e h = let here : truth_in (slots_of vs) f ≡ True = h 0 f (omega arith) in untrue (truth_in (slots_of vs) f) e here
-not_all (f ∷ facts) (suc k) vs e h = not_all facts k vs e (λ i d within. h (suc i) d (omega arith))
+-- each fact is True of the values
+abbrev AllTrue : Facts → List Value → Type 0
+AllTrue facts vs = All (IsTrueOf facts.scope facts.definitions vs) facts.terms
+
+not_all : (facts : Facts) (terms : List Term) (k : ℕ) (vs : List Value) → has_at (is_untrue facts vs) k terms ≡ true → All (IsTrueOf facts.scope facts.definitions vs) terms → ⊥
+not_all facts [] k vs e h = cc
+not_all facts (f ∷ terms) zero vs e h =
+    let here : fact_at facts.scope (slots_of facts.scope facts.definitions vs) f ≡ True = h 0 f (omega arith) in
+    untrue (fact_at facts.scope (slots_of facts.scope facts.definitions vs) f) e here
+not_all facts (f ∷ terms) (suc k) vs e h = not_all facts terms k vs e (λ i d within. h (suc i) d (omega arith))
 
 no_value : (d : Interval) (v : Value) → is_empty d ≡ true → IsIn d v → ⊥
 no_value d v e h = grind (arith, ints, h.above, h.below)
@@ -76,11 +82,11 @@ none_in (d ∷ store) zero (v ∷ vs) e (first, rest) = no_value d v e first
 none_in (d ∷ store) (suc k) (v ∷ vs) e (first, rest) = none_in store k vs e rest
 
 -- a line that leaves no box open leaves the values in one of its parts, where they make each fact True
-covered : (facts : List Term) (store : Store) (l : Line) (vs : List Value) → Fits facts store l → is_open l ≡ false → AreIn store vs → All (IsTrueOf vs) facts → SomeHas vs (parts_of store l)
+covered : (facts : Facts) (store : Store) (l : Line) (vs : List Value) → Fits facts store l → is_open l ≡ false → AreIn store vs → AllTrue facts vs → SomeHas vs (parts_of store l)
 covered facts store (line.Split k n) vs fits closed h all = elim (in_parts store k n vs h) [ inl a ↦ inl a | inr b ↦ inr (inl b) ]
 covered facts store (line.Clash k) vs fits closed h all = none_in store k vs fits h
 covered facts store (line.Eval k) vs (singles, false_there) closed h all =
-    not_all facts k vs (subst (λ v. has_at (is_untrue v) k facts ≡ true) (only_values store vs singles h) false_there) all
+    not_all facts facts.terms k vs (subst (λ v. has_at (is_untrue facts v) k facts.terms ≡ true) (only_values store vs singles h) false_there) all
 covered facts store line.Open vs fits closed h all = absurd (cc)
 covered facts store line.Header vs fits closed h all = fits
 covered facts store line.Begin vs fits closed h all = fits
@@ -96,7 +102,7 @@ pub opens_append : (xs ys : List Line) → opens (xs ++ ys) ≡ opens xs + opens
 opens_append [] ys = omega arith
 opens_append (x ∷ xs) ys = let e = opens_append xs ys in omega arith
 
-refutes : (facts : List Term) (tree : Tree) (store : Store) (vs : List Value) → Holds facts store tree → opens (lines_of tree) ≡ 0 → AreIn store vs → All (IsTrueOf vs) facts → ⊥
+refutes : (facts : Facts) (tree : Tree) (store : Store) (vs : List Value) → Holds facts store tree → opens (lines_of tree) ≡ 0 → AreIn store vs → AllTrue facts vs → ⊥
 refutes facts (leaf l) store vs (fits, parts) closed h all = subst (SomeHas vs) parts (covered facts store l vs fits (none_open l [] closed).0 h all)
 refutes facts (one l tree) store vs (a, fits, parts, holds) closed h all =
     let c = none_open l (lines_of tree) closed in
@@ -123,5 +129,5 @@ first_has scope (c ∷ choices) (d ∷ store) [] f v = absurd v
 first_has scope (c ∷ choices) (d ∷ store) (w ∷ vs) f v = ((f.0 w).1 v.0, first_has scope choices store vs f.1 v.1)
 
 pub no_solution : (scope : Scope) (problem : Problem) (text : List ℕ) → IsAccepted scope problem text → (vs : List Value) → IsSolution scope problem vs → ⊥
-no_solution scope problem text (first, is_first, whole) vs (valuation, all) =
-    refutes problem.facts whole.whole.tree first vs whole.whole.holds (sym whole.whole.open_lines) (first_has scope problem.choices first vs is_first valuation) all
+no_solution scope problem text (first, is_first, whole) vs solution =
+    refutes (facts_of scope problem) whole.whole.tree first vs whole.whole.holds (sym whole.whole.open_lines) (first_has scope problem.choices first vs is_first solution.valuation) solution.facts

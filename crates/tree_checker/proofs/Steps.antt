@@ -3,11 +3,10 @@ use Rattle.tree_form.specs.declared.line.Line.TheVariants.{Header as header, Beg
 use Rattle.tree_form.specs.declared.line.Line.{Line}
 use Rattle.std.proofs.Common.{◌≡◌, ℕ, ◌+◌, List, [], ◌∷◌, ◌++◌, Bool, true, false, not, ap, sym, subst, refl, append-nil, arith, cond, Option, Some, None, Ok, Err}
 use Rattle.std.specs.List.{list_all}
-use Rattle.eb_term.specs.declared.term.Term.{Term}
 use Rattle.tree_form.specs.declared.line.LineFault.{LineFault}
 use Rattle.tree_form.specs.declared.line.LineFault.TheVariants.{BadLine, NoSuchOccurrence, BadTest}
 use Rattle.occ_store.specs.Stores.{Store}
-use Rattle.tree_checker.specs.Trees.{Task, Fits, Tree, leaf, Holds, lines_of, is_header, opens, IsWhole}
+use Rattle.tree_checker.specs.Trees.{Facts, Task, Fits, Tree, leaf, Holds, lines_of, is_header, opens, IsWhole}
 use Rattle.tree_checker.specs.Verdicts.{State, heading, within, ended, fault}
 use Rattle.tree_checker.specs.steps.Machine.{next}
 use Rattle.tree_checker.proofs.Forests.{Forest, some_line, step_in, step_out, leaves}
@@ -25,7 +24,7 @@ Finishes task (within stores before) lines count = IsRest task stores before lin
 Finishes task (ended before) lines count = (lines ≡ []) × (count ≡ before)
 
 -- a line that fits its store has no fault there
-pub no_fault : (facts : List Term) (store : Store) (stores : List Store) (k : ℕ) (line : Line) → Fits facts store line → fault facts (within (store ∷ stores) k) (Ok line) ≡ None
+pub no_fault : (facts : Facts) (store : Store) (stores : List Store) (k : ℕ) (line : Line) → Fits facts store line → fault facts (within (store ∷ stores) k) (Ok line) ≡ None
 no_fault facts store stores k (split c n) fits = rw fits refl
 no_fault facts store stores k (clash c) fits = rw fits refl
 no_fault facts store stores k (eval c) (singles, untrue) = rw (singles, untrue) refl
@@ -38,7 +37,7 @@ passed : {A : Type 0} (b : Bool) (x : A) (rest : Option A) → cond (not b) (Som
 passed true x rest h = (refl, h)
 passed false x rest h = absurd (cc)
 
-pub fits_there : (facts : List Term) (store : Store) (stores : List Store) (k : ℕ) (line : Line) → fault facts (within (store ∷ stores) k) (Ok line) ≡ None → Fits facts store line
+pub fits_there : (facts : Facts) (store : Store) (stores : List Store) (k : ℕ) (line : Line) → fault facts (within (store ∷ stores) k) (Ok line) ≡ None → Fits facts store line
 fits_there facts store stores k (split c n) none = (passed _ _ _ none).0
 fits_there facts store stores k (clash c) none = (passed _ _ _ none).0
 fits_there facts store stores k (eval c) none = let singles = passed _ _ _ none in (singles.0, (passed _ _ _ singles.1).0)
@@ -48,7 +47,7 @@ fits_there facts store stores k begin none = absurd (cc)
 fits_there facts store stores k finish none = absurd (cc)
 
 -- what isn't a line is at fault in each place
-pub fault_faults : (facts : List Term) (place : State) (f : LineFault) → fault facts place (Err f) ≡ None → ⊥
+pub fault_faults : (facts : Facts) (place : State) (f : LineFault) → fault facts place (Err f) ≡ None → ⊥
 fault_faults facts heading BadLine e = cc
 fault_faults facts heading NoSuchOccurrence e = cc
 fault_faults facts heading BadTest e = cc

@@ -9,7 +9,6 @@ use Rattle.eb_value.specs.declared.types.Shape.{out-Shape}
 use Rattle.eb_value.specs.Types.{integer}
 use Rattle.eb_term.specs.declared.problem.Choice.{Choice}
 use Rattle.eb_term.specs.declared.problem.Problem.{Problem}
-use Rattle.eb_term.specs.declared.term.Term.{Term}
 use Rattle.int_dom.specs.Intervals.{is_empty, at_most, above, has_parts}
 use Rattle.tree_form.specs.declared.line.Line.{Line}
 use Rattle.tree_form.specs.declared.line.Line.TheVariants.{Header as header, Begin as begin, Split as split, Clash as clash, Eval as eval, Open as leave, End as finish}
@@ -19,7 +18,7 @@ use Rattle.tree_checker.specs.declared.verdict.Cause.{Cause}
 use Rattle.tree_checker.specs.declared.verdict.Cause.TheVariants.{Unfinished, AfterEnd}
 use Rattle.tree_checker.specs.declared.verdict.Verdict.TheVariants.{Refused as refused}
 use Rattle.occ_store.specs.Stores.{Store, HaveIntegers}
-use Rattle.tree_checker.specs.Trees.{Task, Tree, leaf, one, two, Fits, parts_of, Holds, lines_of, is_header, IsWhole, IsViable}
+use Rattle.tree_checker.specs.Trees.{Facts, Task, Tree, leaf, one, two, Fits, parts_of, Holds, lines_of, is_header, IsWhole, IsViable}
 use Rattle.tree_checker.specs.Verdicts.{State, heading, within, ended, Reading, fault}
 use Rattle.tree_checker.specs.Texts.{joined, is_one_line, IsText, AreLines, IsWholeText, IsViableText, IsVerdictFor}
 use Rattle.tree_checker.specs.steps.Machine.{Reader, after, at_end, verdict_from, with_byte, lines_and_rest, is_some_byte, readings, text_rest}
@@ -94,7 +93,7 @@ falls (b ∷ bytes) = byte_first b (lines_and_rest bytes).0 (lines_and_rest byte
 -- Where choices are integers and the store has a domain for each, the lines of a tree that holds are
 -- read back.
 pub record IsSuited (problem : Problem) (task : Task) : Type 0 where
-  pub facts : task.facts ≡ problem.facts
+  pub facts : task.facts.terms ≡ problem.facts
   pub integers : HaveIntegers problem.choices
   pub count : length task.first ≡ length problem.choices
 
@@ -117,16 +116,16 @@ integer_there (c ∷ choices) (suc k) h less = integer_there choices k h.1 (omeg
 abbrev Suits : Problem → Line → Type 0
 Suits problem line = (is_there problem line ≡ true) × (fits_type problem line ≡ true)
 
-line_suits : (problem : Problem) (store : Store) (line : Line) → HaveIntegers problem.choices → length store ≡ length problem.choices → Fits problem.facts store line → Suits problem line
-line_suits problem store (split k n) h same fits =
+line_suits : (problem : Problem) (facts : Facts) (store : Store) (line : Line) → facts.terms ≡ problem.facts → HaveIntegers problem.choices → length store ≡ length problem.choices → Fits facts store line → Suits problem line
+line_suits problem facts store (split k n) own h same fits =
     let there : k < length problem.choices = subst (λ l. k < l) same (at_within (has_parts n) k store fits) in
     (is_below k (length problem.choices) there, integer_there problem.choices k h there)
-line_suits problem store (clash k) h same fits = (is_below k (length problem.choices) (subst (λ l. k < l) same (at_within is_empty k store fits)), refl)
-line_suits problem store (eval k) h same fits = (is_below k (length problem.facts) (at_within _ k problem.facts fits.1), refl)
-line_suits problem store leave h same fits = (refl, refl)
-line_suits problem store header h same fits = absurd fits
-line_suits problem store begin h same fits = absurd fits
-line_suits problem store finish h same fits = absurd fits
+line_suits problem facts store (clash k) own h same fits = (is_below k (length problem.choices) (subst (λ l. k < l) same (at_within is_empty k store fits)), refl)
+line_suits problem facts store (eval k) own h same fits = (is_below k (length problem.facts) (subst (λ n. k < n) (ap length own) (at_within _ k facts.terms fits.1)), refl)
+line_suits problem facts store leave own h same fits = (refl, refl)
+line_suits problem facts store header own h same fits = absurd fits
+line_suits problem facts store begin own h same fits = absurd fits
+line_suits problem facts store finish own h same fits = absurd fits
 
 abbrev AllSuit : Problem → List Line → Type 0
 AllSuit problem [] = ⊤
@@ -155,15 +154,15 @@ parts_have store header = tt
 parts_have store begin = tt
 parts_have store finish = tt
 
-tree_suits : (problem : Problem) (tree : Tree) (store : Store) → HaveIntegers problem.choices → length store ≡ length problem.choices → Holds problem.facts store tree → AllSuit problem (lines_of tree)
-tree_suits problem (leaf line) store h same (fits, parts) = (line_suits problem store line h same fits, tt)
-tree_suits problem (one line tree) store h same (a, fits, parts, holds) =
+tree_suits : (problem : Problem) (facts : Facts) (tree : Tree) (store : Store) → facts.terms ≡ problem.facts → HaveIntegers problem.choices → length store ≡ length problem.choices → Holds facts store tree → AllSuit problem (lines_of tree)
+tree_suits problem facts (leaf line) store own h same (fits, parts) = (line_suits problem facts store line own h same fits, tt)
+tree_suits problem facts (one line tree) store own h same (a, fits, parts, holds) =
     let have = subst (AllHave (length store)) parts (parts_have store line) in
-    (line_suits problem store line h same fits, tree_suits problem tree a h (have.0 ∙ same) holds)
-tree_suits problem (two line first second) store h same (a, b, fits, parts, holds, holds') =
+    (line_suits problem facts store line own h same fits, tree_suits problem facts tree a own h (have.0 ∙ same) holds)
+tree_suits problem facts (two line first second) store own h same (a, b, fits, parts, holds, holds') =
     let have = subst (AllHave (length store)) parts (parts_have store line) in (
-      line_suits problem store line h same fits,
-      suit_append problem (lines_of first) (lines_of second) (tree_suits problem first a h (have.0 ∙ same) holds) (tree_suits problem second b h (have.1.0 ∙ same) holds'),
+      line_suits problem facts store line own h same fits,
+      suit_append problem (lines_of first) (lines_of second) (tree_suits problem facts first a own h (have.0 ∙ same) holds) (tree_suits problem facts second b own h (have.1.0 ∙ same) holds'),
     )
 
 headers_suit : (problem : Problem) (headers : List Line) → list_all is_header headers ≡ true → AllSuit problem headers
@@ -173,10 +172,9 @@ headers_suit problem (_ ∷ headers) all = absurd (cc)
 
 whole_suits : (problem : Problem) (task : Task) (lines : List Line) (count : ℕ) → IsSuited problem task → IsWhole task lines count → AllSuit problem lines
 whole_suits problem task lines count s w =
-    let holds : Holds problem.facts task.first w.tree = subst (λ facts. Holds facts task.first w.tree) s.facts w.holds in
     subst (AllSuit problem) (sym w.text)
     (suit_append problem w.headers (begin ∷ (lines_of w.tree ++ (finish ∷ []))) (headers_suit problem w.headers w.all)
-    ((refl, refl), suit_append problem (lines_of w.tree) (finish ∷ []) (tree_suits problem w.tree task.first s.integers s.count holds) ((refl, refl), tt)))
+    ((refl, refl), suit_append problem (lines_of w.tree) (finish ∷ []) (tree_suits problem task.facts w.tree task.first s.facts s.integers s.count w.holds) ((refl, refl), tt)))
 
 -- texts that are those of lines are read as these
 read_lines : (problem : Problem) (reader : Reader problem) (texts : List (List ℕ)) (lines : List Line) → AreLines texts lines → AllSuit problem lines → readings reader.read texts ≡ read_as lines
@@ -267,7 +265,7 @@ one_written text line lines uncut is w = record { texts = text ∷ w.texts; each
 finish_written : IsWritten (finish ∷ [])
 finish_written = one_written (codes "end") finish [] refl (refl, refl) (record { texts = []; each = refl; are_lines = tt })
 
-leaves_written : (facts : List Term) (stores : List Store) → IsWritten ((leaves facts stores).0 ++ (finish ∷ []))
+leaves_written : (facts : Facts) (stores : List Store) → IsWritten ((leaves facts stores).0 ++ (finish ∷ []))
 leaves_written facts [] = finish_written
 leaves_written facts (store ∷ stores) = one_written (codes "o") leave ((leaves facts stores).0 ++ (finish ∷ [])) refl (refl, refl) (leaves_written facts stores)
 

@@ -10,7 +10,7 @@ use Rattle.tree_checker.specs.declared.verdict.Cause.TheVariants.{Unfinished, Af
 use Rattle.tree_checker.specs.declared.verdict.Verdict.{Verdict}
 use Rattle.tree_checker.specs.declared.verdict.Verdict.TheVariants as verdict
 use Rattle.occ_store.specs.Stores.{Store, IsFirst}
-use Rattle.tree_checker.specs.Trees.{Task, Tree, Holds, lines_of, opens, IsWhole}
+use Rattle.tree_checker.specs.Trees.{Task, facts_of, Tree, Holds, lines_of, opens, IsWhole}
 use Rattle.tree_checker.specs.Verdicts.{State, Reading, IsPlace, fault}
 
 -- each line with its line feed
@@ -74,13 +74,13 @@ IsVerdictFor problem task text (verdict.Refused n cause) = (texts : List (List �
     (((before : List (List ℕ)) × (line : List ℕ) × (after : List (List ℕ)) × (texts ≡ before ++ (line ∷ after)) × (n ≡ suc (length before)) × IsFault problem task before line cause)
     ⊎ ((n ≡ suc (length texts)) × IsShort task texts rest cause))
 
-abbrev pub task_of : Problem → Store → Task
-task_of problem first = record { facts = problem.facts; first = first }
+abbrev pub task_of : Scope → Problem → Store → Task
+task_of scope problem first = record { facts = facts_of scope problem; first = first }
 
 -- The verdict on a text: a tree without open boxes that holds from the first store; one with open
 -- boxes; or the first line at fault, with its cause.
 abbrev pub IsVerdict : Scope → Problem → List ℕ → Verdict → Type 0
-IsVerdict scope problem text verdict = (first : Store) × IsFirst scope problem.choices first × IsVerdictFor problem (task_of problem first) text verdict
+IsVerdict scope problem text verdict = (first : Store) × IsFirst scope problem.choices first × IsVerdictFor problem (task_of scope problem first) text verdict
 
 -- The text is that of a refutation of the problem.
 abbrev pub IsAccepted : Scope → Problem → List ℕ → Type 0

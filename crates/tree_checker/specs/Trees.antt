@@ -1,26 +1,38 @@
 -- Refutation trees: what they are, when they hold, and the lines of a whole tree.
 use Rattle.std.specs.Prelude.{◌≡◌, ⊤, ℕ, ◌+◌, Bool, true, false, not, cond, List, [], ◌∷◌, ◌++◌}
 use Rattle.std.specs.List.{list_all}
+use Rattle.eb_value.specs.declared.scope.Scope.{Scope}
 use Rattle.eb_value.specs.declared.value.Value.{Value}
+use Rattle.eb_term.specs.declared.problem.Problem.{Problem}
 use Rattle.eb_term.specs.declared.term.Term.{Term}
-use Rattle.eb_meaning.specs.Meaning.{is_true, truth_in}
-use Rattle.eb_meaning.specs.Problems.{slots_of}
+use Rattle.eb_meaning.specs.Truths.{is_true}
+use Rattle.eb_meaning.specs.Problems.{slots_of, fact_at}
 use Rattle.int_dom.specs.Intervals.{is_empty, is_single, at_most, above, has_parts}
 use Rattle.tree_form.specs.declared.line.Line.{Line}
 use Rattle.tree_form.specs.declared.line.Line.TheVariants as line
 use Rattle.occ_store.specs.Places.{has_at, changed_at}
 use Rattle.occ_store.specs.Stores.{Store, single_values}
 
-abbrev pub is_untrue : List Value → Term → Bool
-is_untrue values fact = not (is_true (truth_in (slots_of values) fact))
+-- What says whether the facts are True: the scope, the definitions and the facts.
+pub record Facts : Type 0 where
+  pub scope : Scope
+  pub definitions : List Term
+  pub terms : List Term
+
+-- those of a problem
+abbrev pub facts_of : Scope → Problem → Facts
+facts_of scope problem = record { scope = scope; definitions = problem.definitions; terms = problem.facts }
+
+abbrev pub is_untrue : Facts → List Value → Term → Bool
+is_untrue facts values fact = not (is_true (fact_at facts.scope (slots_of facts.scope facts.definitions values) fact))
 
 -- What a line asks of the store in which it stands: a split leaves both parts of a choice's domain
 -- non-empty; a choice whose domain is empty closes the store, and so does a fact that isn't True
 -- where all domains are single.
-abbrev pub Fits : List Term → Store → Line → Type 0
+abbrev pub Fits : Facts → Store → Line → Type 0
 Fits facts store (line.Split k n) = has_at (has_parts n) k store ≡ true
 Fits facts store (line.Clash k) = has_at is_empty k store ≡ true
-Fits facts store (line.Eval k) = (list_all is_single store ≡ true) × (has_at (is_untrue (single_values store)) k facts ≡ true)
+Fits facts store (line.Eval k) = (list_all is_single store ≡ true) × (has_at (is_untrue facts (single_values store)) k facts.terms ≡ true)
 Fits facts store line.Open = ⊤
 Fits facts store line.Header = ⊥
 Fits facts store line.Begin = ⊥
@@ -43,7 +55,7 @@ pub data Tree : Type 0 where
   two : Line → Tree → Tree → Tree
 
 -- the tree's lines fit the stores in which they stand, and have a subtree for each part
-abbrev pub Holds : List Term → Store → Tree → Type 0
+abbrev pub Holds : Facts → Store → Tree → Type 0
 Holds facts store (leaf line) = Fits facts store line × (parts_of store line ≡ [])
 Holds facts store (one line tree) = (a : Store) × Fits facts store line × (parts_of store line ≡ a ∷ []) × Holds facts a tree
 Holds facts store (two line first second) =
@@ -85,7 +97,7 @@ OpensAreLoose (store ∷ stores) (line ∷ lines) = (is_open line ≡ true → l
 
 -- What a tree is judged by: the facts, and the store in which it stands.
 pub record Task : Type 0 where
-  pub facts : List Term
+  pub facts : Facts
   pub first : Store
 
 -- the lines are headers, the beginning, a tree that holds and has this number of open boxes, and the end

@@ -1,7 +1,6 @@
 -- Where a line stands, and which fault it has there.
 use Rattle.std.specs.Prelude.{◌≡◌, ℕ, Bool, true, false, not, ◌&&◌, ◌||◌, List, [], ◌∷◌, ◌++◌, Option, Result, Ok, Err}
 use Rattle.std.specs.List.{find, list_all}
-use Rattle.eb_term.specs.declared.term.Term.{Term}
 use Rattle.int_dom.specs.Intervals.{is_empty, is_single, has_parts}
 use Rattle.tree_form.specs.declared.line.Line.{Line}
 use Rattle.tree_form.specs.declared.line.Line.TheVariants as line
@@ -11,7 +10,7 @@ use Rattle.occ_store.specs.Places.{has_at}
 use Rattle.tree_checker.specs.declared.verdict.Cause.{Cause}
 use Rattle.tree_checker.specs.declared.verdict.Cause.TheVariants.{BadLine, NoSuchOccurrence, BadSplit, NoClash, NotSingle, EvalTrue, Unfinished, AfterEnd}
 use Rattle.occ_store.specs.Stores.{Store, single_values}
-use Rattle.tree_checker.specs.Trees.{Task, Fits, parts_of, is_untrue, is_header, opens}
+use Rattle.tree_checker.specs.Trees.{Facts, Task, Fits, parts_of, is_untrue, is_header, opens}
 
 -- Before the tree; in the tree, with the stores to be closed, first ones first, and the open boxes so
 -- far; or after the end, with the open boxes.
@@ -21,7 +20,7 @@ pub data State : Type 0 where
   ended : ℕ → State
 
 -- the lines close stores of the list, first ones first, until those of the second list are left
-abbrev pub LeadsTo : List Term → List Store → List Line → List Store → Type 0
+abbrev pub LeadsTo : Facts → List Store → List Line → List Store → Type 0
 LeadsTo facts stores [] left = stores ≡ left
 LeadsTo facts [] (line ∷ lines) left = ⊥
 LeadsTo facts (store ∷ stores) (line ∷ lines) left = Fits facts store line × LeadsTo facts (parts_of store line ++ stores) lines left
@@ -121,12 +120,12 @@ is_not_single store (line.Eval k) = not (list_all is_single store)
 is_not_single store _ = false
 
 -- the fact, which a text that was read as a line names, is True of the store's values
-abbrev pub is_eval_true : List Term → Store → Line → Bool
-is_eval_true facts store (line.Eval k) = not (has_at (is_untrue (single_values store)) k facts)
+abbrev pub is_eval_true : Facts → Store → Line → Bool
+is_eval_true facts store (line.Eval k) = not (has_at (is_untrue facts (single_values store)) k facts.terms)
 is_eval_true facts store _ = false
 
 -- When each cause applies to a text that is read as this and stands here.
-abbrev pub applies : List Term → State → Reading → Cause → Bool
+abbrev pub applies : Facts → State → Reading → Cause → Bool
 applies facts place reading BadLine = is_bad reading || is_misplaced place reading
 applies facts place reading AfterEnd = is_past place reading
 applies facts place reading Unfinished = is_line is_end reading && is_unfinished place
@@ -141,5 +140,5 @@ abbrev pub order : List Cause
 order = BadLine ∷ AfterEnd ∷ Unfinished ∷ NoSuchOccurrence ∷ BadSplit ∷ NoClash ∷ NotSingle ∷ EvalTrue ∷ []
 
 -- the first cause that applies
-abbrev pub fault : List Term → State → Reading → Option Cause
+abbrev pub fault : Facts → State → Reading → Option Cause
 fault facts place reading = find (applies facts place reading) order

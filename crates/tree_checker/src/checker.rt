@@ -1,5 +1,5 @@
 ghost use Rattle.std.specs.Prelude.{◌-◌, ◌≡◌, ◌<◌, ◌≤◌, ◌+◌, ◌^◌, ◌∷◌, [], true, false, None, Ok, IfOk, OnOk, MatchOption};
-ghost use Rattle.tree_checker.specs.Trees.{Task};
+ghost use Rattle.tree_checker.specs.Trees.{Task, facts_of};
 ghost use Rattle.tree_checker.specs.Verdicts as verdicts;
 ghost use Rattle.tree_checker.specs.steps.Machine as spec;
 ghost use Rattle.tree_checker.specs.Texts.{task_of};
@@ -7,7 +7,8 @@ ghost use Rattle.tree_checker.specs.steps.Checking as checking;
 
 use crate::store::is_untrue_at;
 use crate::verdict::{Cause, Verdict};
-use eb_term::{Problem, Terms};
+use eb_term::Problem;
+use eb_value::Scope;
 use int_dom::Interval;
 use occ_store::{Boxes, Store};
 use std::alloc::{AllocError, Global};
@@ -36,11 +37,12 @@ pub(crate) struct Checker {
 /// The fault of a line in its store, if it has one.
 fn line_fault(
     alloc: Global,
-    facts: &Terms,
+    scope: &Scope,
+    problem: &Problem,
     store: &Store,
     line: Line,
 ) -> Result<Option<Cause>, AllocError>
-    ensures { IfOk result (λ fault. fault ≡ verdicts.fault facts.now (verdicts.within (store.now ∷ []) 0) (Ok line)) }
+    ensures { IfOk result (λ fault. fault ≡ verdicts.fault (facts_of scope.now problem.now) (verdicts.within (store.now ∷ []) 0) (Ok line)) }
 {
     Ok(match line {
         Line::Header | Line::Begin => Some(Cause::BadLine),
@@ -50,14 +52,14 @@ fn line_fault(
         Line::Clash(k) if store.is_empty_at(k) => None,
         Line::Clash(_) => Some(Cause::NoClash),
         Line::Eval(_) if !store.is_single() => Some(Cause::NotSingle),
-        Line::Eval(k) if is_untrue_at(alloc, facts, store, k)? => None,
+        Line::Eval(k) if is_untrue_at(alloc, scope, problem, store, k)? => None,
         Line::Eval(_) => Some(Cause::EvalTrue),
     })
 }
 
 /// The fault of a split in its store.
 fn split_fault(store: &Store, k: u32, n: i64) -> Option<Cause>
-    ensures { result ≡ verdicts.fault [] (verdicts.within (store.now ∷ []) 0) (Ok (Line.Split k n)) }
+    ensures { result ≡ verdicts.fault checking.no_facts (verdicts.within (store.now ∷ []) 0) (Ok (Line.Split k n)) }
 {
     match store.parts(k, n) {
         Some(_) => None,
@@ -68,14 +70,15 @@ fn split_fault(store: &Store, k: u32, n: i64) -> Option<Cause>
 /// The fault of a text in its store, by what it is read as.
 fn store_fault(
     alloc: Global,
-    facts: &Terms,
+    scope: &Scope,
+    problem: &Problem,
     store: &Store,
     reading: Result<Line, LineFault>,
 ) -> Result<Option<Cause>, AllocError>
-    ensures { IfOk result (λ fault. fault ≡ verdicts.fault facts.now (verdicts.within (store.now ∷ []) 0) reading) }
+    ensures { IfOk result (λ fault. fault ≡ verdicts.fault (facts_of scope.now problem.now) (verdicts.within (store.now ∷ []) 0) reading) }
 {
     match reading {
-        Ok(line) => line_fault(alloc, facts, store, line),
+        Ok(line) => line_fault(alloc, scope, problem, store, line),
         Err(LineFault::BadLine) => Ok(Some(Cause::BadLine)),
         Err(LineFault::NoSuchOccurrence) => Ok(Some(Cause::NoSuchOccurrence)),
         Err(LineFault::BadTest) => Ok(Some(Cause::BadSplit)),
@@ -99,16 +102,17 @@ impl Checker {
     fn fault(
         &self,
         alloc: Global,
+        scope: &Scope,
         problem: &Problem,
         reading: Result<Line, LineFault>,
     ) -> Result<Option<Cause>, AllocError>
-        ensures { IfOk result (λ fault. fault ≡ verdicts.fault problem.now.facts (checking.state_of self.now) reading) }
+        ensures { IfOk result (λ fault. fault ≡ verdicts.fault (facts_of scope.now problem.now) (checking.state_of self.now) reading) }
     {
         match self.phase {
             Phase::Heading => Ok(heading_fault(reading)),
             Phase::Ended => Ok(ended_fault(reading)),
             Phase::Within => match self.boxes.first() {
-                Some(store) => store_fault(alloc, &problem.facts, store, reading),
+                Some(store) => store_fault(alloc, scope, problem, store, reading),
                 None => Ok(closed_fault(reading)),
             },
         }
@@ -165,17 +169,18 @@ impl Checker {
     pub(crate) fn feed(
         &mut self,
         alloc: Global,
+        scope: &Scope,
         problem: &Problem,
         first: &Store,
         reading: Result<Line, LineFault>,
     ) -> Result<Option<Cause>, AllocError>
         requires few { self.old.opens < 2 ^ 64 - 1 }
         ensures grows { self.new.opens ≤ self.old.opens + 1 }
-        ensures fault { IfOk result (λ fault. fault ≡ verdicts.fault problem.now.facts (checking.state_of self.old) reading) }
+        ensures fault { IfOk result (λ fault. fault ≡ verdicts.fault (facts_of scope.now problem.now) (checking.state_of self.old) reading) }
         ensures next { result ≡ Ok None → checking.state_of self.new
-            ≡ spec.next_place (task_of problem.now first.now) (checking.state_of self.old) reading }
+            ≡ spec.next_place (task_of scope.now problem.now first.now) (checking.state_of self.old) reading }
     {
-        if let Some(cause) = self.fault(alloc, problem, reading)? {
+        if let Some(cause) = self.fault(alloc, scope, problem, reading)? {
             return Ok(Some(cause));
         }
         if let Ok(line) = reading {
@@ -235,7 +240,7 @@ fn first_parts(boxes: &Boxes, k: u32, n: i64) -> Option<(Interval, Interval)>
 
 /// The fault of a text before the tree.
 fn heading_fault(reading: Result<Line, LineFault>) -> Option<Cause>
-    ensures { result ≡ verdicts.fault [] verdicts.heading reading }
+    ensures { result ≡ verdicts.fault checking.no_facts verdicts.heading reading }
 {
     match reading {
         Ok(Line::Header | Line::Begin) => None,
@@ -246,7 +251,7 @@ fn heading_fault(reading: Result<Line, LineFault>) -> Option<Cause>
 
 /// The fault of a text where the tree is closed.
 fn closed_fault(reading: Result<Line, LineFault>) -> Option<Cause>
-    ensures { result ≡ verdicts.fault [] (verdicts.within [] 0) reading }
+    ensures { result ≡ verdicts.fault checking.no_facts (verdicts.within [] 0) reading }
 {
     match reading {
         Ok(Line::End) => None,
@@ -257,7 +262,7 @@ fn closed_fault(reading: Result<Line, LineFault>) -> Option<Cause>
 
 /// The fault of a text after the end.
 fn ended_fault(reading: Result<Line, LineFault>) -> Option<Cause>
-    ensures { result ≡ verdicts.fault [] (verdicts.ended 0) reading }
+    ensures { result ≡ verdicts.fault checking.no_facts (verdicts.ended 0) reading }
 {
     match reading {
         Err(LineFault::BadLine) => Some(Cause::BadLine),

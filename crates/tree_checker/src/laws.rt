@@ -5,7 +5,6 @@ ghost use Rattle.eb_value.specs.Typing.{in_range};
 ghost use Rattle.eb_value.specs.declared.scope.Scope.{Scope as ScopeValue};
 ghost use Rattle.eb_term.specs.declared.problem.Problem.{Problem as ProblemValue};
 ghost use Rattle.tree_form.specs.Lines.{has_small_numbers};
-ghost use Rattle.eb_term.specs.declared.term.Term.{Term};
 ghost use Rattle.tree_form.specs.declared.line.Line.{Line};
 ghost use Rattle.eb_value.specs.declared.value.Value.{Value};
 ghost use Rattle.eb_meaning.specs.Problems.{IsSolution};
@@ -32,10 +31,10 @@ pub fn splits_are_fewer_than_valuations(scope: &Scope, problem: &Problem)
     requires integers { stores.HaveIntegers problem.now.choices }
     requires scope { scope.now.lo ≤ℤ scope.now.hi }
     ensures splits { (first : stores.Store) → (tree : trees.Tree) → stores.IsFirst scope.now problem.now.choices first
-        → trees.Holds problem.now.facts first tree
+        → trees.Holds (trees.facts_of scope.now problem.now) first tree
         → trees.splits_of (trees.lines_of tree) + 1 ≤ stores.valuation_count scope.now problem.now.choices }
     ensures opens { (first : stores.Store) → (tree : trees.Tree) → stores.IsFirst scope.now problem.now.choices first
-        → trees.Holds problem.now.facts first tree → trees.OpensAreLoose (first ∷ []) (trees.lines_of tree)
+        → trees.Holds (trees.facts_of scope.now problem.now) first tree → trees.OpensAreLoose (first ∷ []) (trees.lines_of tree)
         → trees.splits_of (trees.lines_of tree) + trees.opens (trees.lines_of tree) + 1 ≤ stores.valuation_count scope.now problem.now.choices }
 {
     first_stores_have_the_valuations();
@@ -48,7 +47,7 @@ pub fn trees_have_small_numbers()
     ensures { (scope : ScopeValue) → (problem : ProblemValue) → (first : stores.Store) → (tree : trees.Tree)
         → stores.HaveIntegers problem.choices → scope.lo ≤ℤ scope.hi → in_range scope.lo ≡ true → in_range scope.hi ≡ true
         → length problem.choices < 2 ^ 32 → length problem.facts ≤ 2 ^ 62
-        → stores.IsFirst scope problem.choices first → trees.Holds problem.facts first tree
+        → stores.IsFirst scope problem.choices first → trees.Holds (trees.facts_of scope problem) first tree
         → list_all has_small_numbers (trees.lines_of tree) ≡ true }
 {
     first_stores_have_the_valuations();
@@ -56,17 +55,17 @@ pub fn trees_have_small_numbers()
 
 /// Lines that leave no store to be closed are those of a tree that holds, and the other way round.
 pub fn closing_lines_are_trees()
-    ensures tree { (facts : List Term) → (store : stores.Store) → (tree : trees.Tree) → trees.Holds facts store tree
+    ensures tree { (facts : trees.Facts) → (store : stores.Store) → (tree : trees.Tree) → trees.Holds facts store tree
         → LeadsTo facts (store ∷ []) (trees.lines_of tree) [] }
-    ensures lines { (facts : List Term) → (store : stores.Store) → (lines : List Line) → LeadsTo facts (store ∷ []) lines []
+    ensures lines { (facts : trees.Facts) → (store : stores.Store) → (lines : List Line) → LeadsTo facts (store ∷ []) lines []
         → (tree : trees.Tree) × trees.Holds facts store tree × (trees.lines_of tree ≡ lines) }
 {}
 
 /// A text is accepted or partial just where it is the printed text of a tree that holds, behind
 /// lines that may stand before it, with no number outside -2^62..2^62.
 pub fn whole_texts_are_printed_trees()
-    ensures whole { (problem : ProblemValue) → (first : stores.Store) → (text : List ℕ) → (count : ℕ)
-        → texts.IsPrinted (texts.task_of problem first) text count → texts.IsWholeText (texts.task_of problem first) text count }
-    ensures printed { (problem : ProblemValue) → (first : stores.Store) → (text : List ℕ) → (count : ℕ)
-        → texts.IsWholeText (texts.task_of problem first) text count → texts.IsPrinted (texts.task_of problem first) text count }
+    ensures whole { (scope : ScopeValue) → (problem : ProblemValue) → (first : stores.Store) → (text : List ℕ) → (count : ℕ)
+        → texts.IsPrinted (texts.task_of scope problem first) text count → texts.IsWholeText (texts.task_of scope problem first) text count }
+    ensures printed { (scope : ScopeValue) → (problem : ProblemValue) → (first : stores.Store) → (text : List ℕ) → (count : ℕ)
+        → texts.IsWholeText (texts.task_of scope problem first) text count → texts.IsPrinted (texts.task_of scope problem first) text count }
 {}

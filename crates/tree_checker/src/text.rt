@@ -37,22 +37,28 @@ pub fn check_text(
     lines_are_read_back();
     first_stores_have_the_valuations();
     let first = Store::first(alloc, problem.choices.as_slice(), scope)?;
-    let verdict = run(alloc, problem, &first, text)?;
+    let verdict = run(alloc, scope, problem, &first, text)?;
     Ok(verdict)
 }
 
 /// Feeds a checker with the text's lines, up to the first at fault.
-fn run(alloc: Global, problem: &Problem, first: &Store, text: &[u8]) -> Result<Verdict, AllocError>
+fn run(
+    alloc: Global,
+    scope: &Scope,
+    problem: &Problem,
+    first: &Store,
+    text: &[u8],
+) -> Result<Verdict, AllocError>
     requires few { length problem.now.choices < 2 ^ 32 }
     requires short { length text.now < 2 ^ 63 }
     ensures { IfOk result (λ verdict. (reader : spec.Reader problem.now)
-        → verdict ≡ spec.text_verdict reader.read problem.now first.now text.now) }
+        → verdict ≡ spec.text_verdict reader.read scope.now problem.now first.now text.now) }
 {
     let mut checker = Checker::new(alloc);
     let mut number = 1;
     let mut rest = text;
     while let Some((line, more)) = first_line(rest) {
-        if let Some(cause) = checker.feed(alloc, problem, first, read_line(line, problem))? {
+        if let Some(cause) = checker.feed(alloc, scope, problem, first, read_line(line, problem))? {
             return Ok(Verdict::Refused(number, cause));
         }
         number += 1;

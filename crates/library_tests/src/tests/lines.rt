@@ -19,7 +19,11 @@ fn problem(alloc: Global) -> Result<Problem, AllocError>
     })?;
     let mut facts = Terms::new(alloc);
     facts.push(Term::truth(true))?;
-    Ok(Problem { choices, facts })
+    Ok(Problem {
+        choices,
+        definitions: Terms::new(alloc),
+        facts,
+    })
 }
 
 /// Lines that no search prints and no accepted text has today, both ways.

@@ -1,5 +1,5 @@
 -- What the checker's fields stand for.
-use Rattle.std.specs.Prelude.{◌≡◌, ⊤, ℕ, Bool, true, false, List, [], ◌∷◌, ◌++◌, ℤ}
+use Rattle.std.specs.Prelude.{◌≡◌, ⊤, ℕ, Bool, true, false, List, [], ◌∷◌, ◌++◌, ℤ, pos}
 use Rattle.int_dom.specs.declared.interval.Interval.{Interval}
 use Rattle.int_dom.specs.Intervals.{has_parts}
 use Rattle.occ_store.specs.Places.{has_at}
@@ -9,7 +9,7 @@ use Rattle.tree_checker.specs.declared.checker.Phase.{Phase}
 use Rattle.tree_checker.specs.declared.checker.Phase.TheVariants.{Heading, Within, Ended}
 use Rattle.tree_form.specs.declared.line.Line.{Line}
 use Rattle.tree_form.specs.declared.line.Line.TheVariants as line
-use Rattle.tree_checker.specs.Trees.{Task, parts_of}
+use Rattle.tree_checker.specs.Trees.{Facts, Task, parts_of}
 use Rattle.tree_checker.specs.Verdicts.{State, heading, within, ended}
 
 abbrev pub state_from : Phase → List Store → ℕ → State
@@ -47,6 +47,10 @@ abbrev pub after_line : List Store → Line → List Store
 after_line [] line = []
 after_line (store ∷ stores) line = parts_of store line ++ stores
 
+-- where no fact is asked for
+abbrev pub no_facts : Facts
+no_facts = record { scope = record { lo = pos 0; hi = pos 0; sizes = []; depth = 0 }; definitions = []; terms = [] }
+
 -- no line changes the facts
 abbrev pub task_at : Store → Task
-task_at first = record { facts = []; first = first }
+task_at first = record { facts = no_facts; first = first }

@@ -1,6 +1,7 @@
 -- The checker, line by line: a means of proof, which the laws of the crate tie to the definition of the
 -- verdict.
 use Rattle.std.specs.Prelude.{◌≡◌, ℕ, zero, suc, ◌+◌, Bool, true, false, cond, if◌then◌else◌, ◌==◌, List, [], ◌∷◌, ◌++◌, map, length, Option, Some, None, Result, Ok, Err}
+use Rattle.eb_value.specs.declared.scope.Scope.{Scope}
 use Rattle.eb_term.specs.declared.problem.Problem.{Problem}
 use Rattle.tree_form.specs.declared.line.Line.{Line}
 use Rattle.tree_form.specs.declared.line.Line.TheVariants as line
@@ -76,8 +77,8 @@ readings read texts = map read texts
 abbrev pub text_rest : (List ℕ → Reading) → Task → ℕ → State → List ℕ → Verdict
 text_rest read task n place text = verdict_from (after task n place (readings read (lines_and_rest text).0)) (n + length (lines_and_rest text).0) (is_some_byte (lines_and_rest text).1)
 
-abbrev pub text_verdict : (List ℕ → Reading) → Problem → Store → List ℕ → Verdict
-text_verdict read problem first text = text_rest read (task_of problem first) 1 heading text
+abbrev pub text_verdict : (List ℕ → Reading) → Scope → Problem → Store → List ℕ → Verdict
+text_verdict read scope problem first text = text_rest read (task_of scope problem first) 1 heading text
 
 -- the first line without its line feed, and what comes after the line feed
 abbrev pub onto_line : ℕ → Option (List ℕ × List ℕ) → Option (List ℕ × List ℕ)

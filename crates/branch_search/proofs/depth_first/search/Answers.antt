@@ -1,6 +1,6 @@
 use Rattle.std.proofs.Common.{arith}
 use Rattle.occ_store.specs.Stores.{IsFirst}
-use Rattle.branch_search.specs.steps.Going.{Ends}
+use Rattle.tree_checker.specs.Trees.{facts_of}
 use Rattle.branch_search.proofs.Endings.{filled, first_length, answered}
 use Rattle.branch_search.proofs.depth_first.search.Goals as goal
 
@@ -18,7 +18,6 @@ close-requires-clause-few c =
 pub returns : goal.returns
 returns c =
     let first : IsFirst c.args.scope.now c.args.problem.now.choices c.in_ok-first.first = rw c.as_slice.ensures at c.in_ok-first.ensures in
-    let ends : Ends c.args.problem.now.facts c.in_ok-first.first c.args.budget c.in_ok-answer.answer = rw c.as_slice-2.ensures at c.in_ok-answer.ensures in
-    answered c.args.scope.now c.args.problem.now c.in_ok-first.first c.args.budget c.in_ok-answer.answer first
-    (λ lines leads. c.closing_lines_are_trees.ensures.lines c.args.problem.now.facts c.in_ok-first.first lines leads)
-    (λ tree holds loose. c.splits_are_fewer_than_valuations.ensures.opens c.in_ok-first.first tree first holds loose) ends
+    answered c.args.scope.now c.args.problem.now c.in_ok-first.first c.args.budget c.in_ok-answer.answer first c.requires.named
+    (λ lines leads. c.closing_lines_are_trees.ensures.lines (facts_of c.args.scope.now c.args.problem.now) c.in_ok-first.first lines leads)
+    (λ tree holds loose. c.splits_are_fewer_than_valuations.ensures.opens c.in_ok-first.first tree first holds loose) c.in_ok-answer.ensures

@@ -1,10 +1,10 @@
 use Rattle.std.proofs.Common.{subst, sym, ◌<◌, ◌≤ℤ◌, length}
 use Rattle.eb_value.specs.declared.scope.Scope.{Scope}
 use Rattle.eb_term.specs.declared.problem.Problem.{Problem}
-use Rattle.eb_meaning.specs.Problems.{IsSolution}
+use Rattle.eb_meaning.specs.Problems.{IsSolution, AreDefinitionsNamed}
 use Rattle.occ_store.specs.Stores.{HaveIntegers}
 use Rattle.cbc_answers.specs.Models as models
-use Rattle.cbc_answers.proofs.Witnesses.{problem_integers, well_formed_scope, scope_filled, constants_fit, few_choices, found_answer}
+use Rattle.cbc_answers.proofs.Witnesses.{problem_integers, well_formed_scope, scope_filled, constants_fit, few_choices, found_answer, none_named}
 use Rattle.cbc_answers.proofs.answering.solved.Goals as goal
 
 pub problem_of-requires : goal.problem_of-requires
@@ -20,6 +20,9 @@ search-requires-clause-few c =
 pub search-requires-clause-scope : goal.search-requires-clause-scope
 search-requires-clause-scope c =
     subst (λ (s : Scope). s.lo ≤ℤ s.hi) (sym c.scope_of-scope.ensures) (scope_filled c.args.text.now (well_formed_scope c.args.text.now c.requires))
+
+pub search-requires-clause-named : goal.search-requires-clause-named
+search-requires-clause-named c = subst AreDefinitionsNamed (sym c.in_ok-problem.ensures) (none_named c.args.text.now)
 
 pub returns-in-Found : goal.returns-in-Found
 returns-in-Found c =

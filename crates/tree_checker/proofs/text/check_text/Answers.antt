@@ -1,4 +1,4 @@
-use Rattle.std.proofs.Common.{rules, ◌≡◌, ◌∙◌, sym, subst}
+use Rattle.std.proofs.Common.{rules, ◌∙◌, sym, subst}
 use Rattle.occ_store.specs.Stores.{IsFirst}
 use Rattle.tree_checker.specs.Texts as texts
 use Rattle.tree_checker.specs.steps.Machine as spec

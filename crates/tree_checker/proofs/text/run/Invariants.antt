@@ -8,7 +8,7 @@ abbrev pub invariant-loop-line : goal.invariant-loop-line
 invariant-loop-line l = record {
   few_lines : l.number + length l.rest ≤ length l.text + 1;
   few_opens : l.checker.opens + 1 ≤ l.number;
-  verdict : (reader : spec.Reader l.problem) → spec.text_verdict reader.read l.problem l.first l.text ≡ spec.text_rest reader.read (task_of l.problem l.first) l.number (checking.state_of l.checker) l.rest;
+  verdict : (reader : spec.Reader l.problem) → spec.text_verdict reader.read l.scope l.problem l.first l.text ≡ spec.text_rest reader.read (task_of l.scope l.problem l.first) l.number (checking.state_of l.checker) l.rest;
 }
 
 abbrev pub decreases-loop-line : goal.decreases-loop-line
