@@ -1,9 +1,9 @@
 #!/usr/bin/env python3
-"""Times `solve` and `check`, the reading of texts, the formula reader, and the operators on large sets and
-relations.
+"""Times `solve` and `check`, the reading of texts, the formula reader, the operators on large sets and
+relations, and the evaluation of formulas.
 
-Use: bench/run.py, after `rt run` in crates/cbc_program, crates/value_times and crates/formula_times
-has built the programs there. Each row runs once, in a process of its own, and prints wall time, processor time
+Use: bench/run.py, after `rt run` in crates/cbc_program, crates/value_times, crates/formula_times and
+crates/meaning_times has built the programs there. Each row runs once, in a process of its own, and prints wall time, processor time
 and peak memory. (A process this small shows the memory of the script that started it, some 14 MiB.)
 """
 import os
@@ -179,6 +179,7 @@ def main():
     program = os.path.join(TOP, "crates/cbc_program/out/cbc_program")
     operators = os.path.join(TOP, "crates/value_times/out/value_times")
     formulas = os.path.join(TOP, "crates/formula_times/out/formula_times")
+    meanings = os.path.join(TOP, "crates/meaning_times/out/meaning_times")
     print(f"{'row':36} {'lines':>8} {'seconds':>8} {'cpu':>8} {'MiB':>6} status")
     for name, text in rows():
         with tempfile.NamedTemporaryFile("w", suffix=".eb") as file:
@@ -210,6 +211,11 @@ def main():
         ("chain", "formula: 100,000 conjuncts, too deep"),
     ):
         show(name, timed([formulas, kind]))
+    for kind, name in (
+        ("products", "meaning: ! over 4,096 instances"),
+        ("squares", "meaning: card of 4,096 instances"),
+    ):
+        show(name, timed([meanings, kind]))
     for operator, name in (
         ("values", "all sets of 16 atoms, 65,536 values"),
         ("union", "union of relations of 4,000 pairs"),
