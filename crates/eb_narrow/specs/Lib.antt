@@ -1,4 +1,5 @@
 -- What the contracts of the public functions lead to.
+pub mod Groups
 pub mod Narrow
 pub mod Shifting
 pub mod Types
