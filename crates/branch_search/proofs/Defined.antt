@@ -9,8 +9,8 @@ use Rattle.eb_value.specs.declared.value.Value.{Value}
 use Rattle.eb_term.specs.declared.term.Term.{Term}
 use Rattle.eb_term.specs.declared.problem.Problem.{Problem}
 use Rattle.eb_term.specs.Leaves.{references}
-use Rattle.eb_meaning.specs.declared.truth3.Truth3.{Truth3}
-use Rattle.eb_meaning.specs.declared.truth3.Truth3.TheVariants.{True, Undefined}
+use Rattle.eb_operations.specs.declared.truth3.Truth3.{Truth3}
+use Rattle.eb_operations.specs.declared.truth3.Truth3.TheVariants.{True, Undefined}
 use Rattle.eb_meaning.specs.Meaning.{Slot, is_value, slot_at, value_of, truth_in}
 use Rattle.eb_meaning.specs.Problems.{outermost, with_definitions, slots_of, names_undefined, fact_at, IsTrueOf, AreDefinitionsNamed}
 

@@ -14,8 +14,8 @@ use Rattle.linear_models.specs.declared.syntax.Relation.{Relation}
 use Rattle.linear_models.specs.declared.syntax.Relation.TheVariants as r
 use Rattle.linear_models.specs.declared.syntax.Comparison.{Comparison}
 use Rattle.linear_models.specs.declared.syntax.Axiom.{Axiom}
-use Rattle.eb_meaning.specs.declared.truth3.Truth3.{Truth3}
-use Rattle.eb_meaning.specs.declared.truth3.Truth3.TheVariants.{Undefined}
+use Rattle.eb_operations.specs.declared.truth3.Truth3.{Truth3}
+use Rattle.eb_operations.specs.declared.truth3.Truth3.TheVariants.{Undefined}
 use Rattle.eb_meaning.specs.Truths.{truth_of, tested, negation, conjunction}
 use Rattle.eb_meaning.specs.Arithmetic.{int_of}
 use Rattle.eb_meaning.specs.Meaning.{Slot, Env, is_value, slot_at, with_two, test_by, truth_by, meaning, value_of, truth_in}

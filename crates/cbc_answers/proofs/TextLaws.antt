@@ -13,6 +13,8 @@ use Rattle.eb_units.specs.Faults as reading
 use Rattle.eb_lower.specs.declared.fault.NameFault.{NameFault}
 use Rattle.eb_lower.specs.declared.fault.NameFault.TheVariants as naming
 use Rattle.eb_lower.specs.Names as names
+use Rattle.eb_model.specs.declared.model.EbModel.{EbModel}
+use Rattle.eb_model.specs.Models.{IsModelOf}
 use Rattle.eb_infer.specs.declared.fault.TypeFault.{TypeFault}
 use Rattle.eb_infer.specs.declared.fault.TypeFault.TheVariants as typing
 use Rattle.eb_infer.specs.Typings as types
@@ -51,10 +53,10 @@ naming_faults text us (naming.DuplicateName name) are h = (us, are, h)
 naming_faults text us (naming.UnknownName name) are h = (us, are, h)
 naming_faults text us naming.Memory are h = tt
 
-pub typing_faults : (text : List ℕ) (us : List EbUnit) (fault : TypeFault) → AreNamedUnits text us → types.IsFaultOf us fault → IsFaultOf text (typing_fault fault)
-typing_faults text us typing.Clash are h = (us, are, h)
-typing_faults text us typing.Open are h = (us, are, h)
-typing_faults text us typing.Memory are h = tt
+pub typing_faults : (text : List ℕ) (us : List EbUnit) (model : EbModel) (fault : TypeFault) → AreNamedUnits text us → IsModelOf us model → types.IsFaultOf model fault → IsFaultOf text (typing_fault fault)
+typing_faults text us model typing.Clash are is h = (us, are, model, is, h)
+typing_faults text us model typing.Open are is h = (us, are, model, is, h)
+typing_faults text us model typing.Memory are is h = tt
 
 -- a text has one list of tokens, and these are read as one list of units
 abbrev pub OneList : Type 0

@@ -13,6 +13,8 @@ use Rattle.eb_lower.specs.declared.fault.NameFault.TheVariants as naming
 use Rattle.eb_lower.specs.Names.{AreNamed}
 use Rattle.eb_lower.specs.Names as names
 use Rattle.eb_value.specs.declared.types.EbType.{EbType}
+use Rattle.eb_model.specs.declared.model.EbModel.{EbModel}
+use Rattle.eb_model.specs.Models.{IsModelOf}
 use Rattle.eb_infer.specs.declared.fault.TypeFault.{TypeFault}
 use Rattle.eb_infer.specs.declared.fault.TypeFault.TheVariants as typing
 use Rattle.eb_infer.specs.Typings.{IsOnly}
@@ -37,11 +39,13 @@ pub record AreNamedUnits (text : List ℕ) (us : List EbUnit) : Type 0 where
   pub units : AreUnits text us
   pub named : AreNamed us
 
--- and their identifiers and marks have types, in just one way
+-- and the identifiers and marks of their model have types, in just one way
 pub record AreTypedUnits (text : List ℕ) (us : List EbUnit) : Type 0 where
   pub named : AreNamedUnits text us
+  pub model : EbModel
+  pub is_model : IsModelOf us model
   pub types : List EbType
-  pub only : IsOnly us types
+  pub only : IsOnly model types
 
 -- The text is this model of the language that is answered today.
 pub record IsModelText (text : List ℕ) (t : LinearModel) : Type 0 where
@@ -74,9 +78,9 @@ HasTokens text fault = (ts : List Token) × IsTokens ts text × reading.IsFaultO
 abbrev pub HasUnits : List ℕ → NameFault → Type 0
 HasUnits text fault = (us : List EbUnit) × AreUnits text us × names.IsFaultOf us fault
 
--- the text has units with this fault of their types
+-- the text has a model with this fault of its types
 abbrev pub HasNamedUnits : List ℕ → TypeFault → Type 0
-HasNamedUnits text fault = (us : List EbUnit) × AreNamedUnits text us × types.IsFaultOf us fault
+HasNamedUnits text fault = (us : List EbUnit) × AreNamedUnits text us × (model : EbModel) × IsModelOf us model × types.IsFaultOf model fault
 
 -- why a text of a model is refused
 abbrev pub RefusesText : List ℕ → Refusal → Type 0

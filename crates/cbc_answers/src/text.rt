@@ -7,6 +7,7 @@ use crate::refusal::Refusal;
 use eb_infer::infer;
 use eb_lexer::{a_text_is_read_in_one_way, tokens, tokens_name_slices};
 use eb_lower::names;
+use eb_model::resolve_model;
 use eb_syntax::Units;
 use eb_units::{a_text_has_one_reading, units};
 use linear_models::{LinearModel, linear_model};
@@ -45,7 +46,8 @@ fn typed_units(alloc: Global, text: &[u8]) -> Result<Units, TextFault>
     ensures cause { IfErr result (spec.IsFaultOf text.now) }
 {
     let units = named_units(alloc, text)?;
-    let _types = infer(alloc, units.as_slice())?;
+    let model = resolve_model(alloc, units.as_slice())?;
+    let _types = infer(alloc, &model)?;
     Ok(units)
 }
 

@@ -1,30 +1,30 @@
--- The only typing of a text, or why it has none.
+-- The only typing of a model, or why it has none.
 use Rattle.std.specs.Prelude.{◌≡◌, ⊤, List}
 use Rattle.eb_value.specs.declared.types.EbType.{EbType}
-use Rattle.eb_syntax.specs.declared.units.EbUnit.{EbUnit}
+use Rattle.eb_model.specs.declared.model.EbModel.{EbModel}
 use Rattle.eb_typing.specs.Models.{Typed}
 use Rattle.eb_infer.specs.declared.fault.TypeFault.{TypeFault}
 use Rattle.eb_infer.specs.declared.fault.TypeFault.TheVariants as fault
 
--- The text has this typing and no other.
-pub record IsOnly (us : List EbUnit) (types : List EbType) : Type 0 where
-  pub typed : Typed us types
-  pub only : (s : List EbType) → Typed us s → s ≡ types
+-- The model has this typing and no other.
+pub record IsOnly (m : EbModel) (types : List EbType) : Type 0 where
+  pub typed : Typed m types
+  pub only : (s : List EbType) → Typed m s → s ≡ types
 
 -- no types are a typing
-abbrev pub HasNone : List EbUnit → Type 0
-HasNone us = (s : List EbType) → Typed us s → ⊥
+abbrev pub HasNone : EbModel → Type 0
+HasNone m = (s : List EbType) → Typed m s → ⊥
 
 -- two different typings
-pub record HasSeveral (us : List EbUnit) : Type 0 where
+pub record HasSeveral (m : EbModel) : Type 0 where
   pub first : List EbType
   pub second : List EbType
-  pub first_typed : Typed us first
-  pub second_typed : Typed us second
+  pub first_typed : Typed m first
+  pub second_typed : Typed m second
   pub differ : first ≡ second → ⊥
 
--- why a text has no answer
-abbrev pub IsFaultOf : List EbUnit → TypeFault → Type 0
-IsFaultOf us fault.Clash = HasNone us
-IsFaultOf us fault.Open = HasSeveral us
-IsFaultOf us fault.Memory = ⊤
+-- why a model has no answer
+abbrev pub IsFaultOf : EbModel → TypeFault → Type 0
+IsFaultOf m fault.Clash = HasNone m
+IsFaultOf m fault.Open = HasSeveral m
+IsFaultOf m fault.Memory = ⊤

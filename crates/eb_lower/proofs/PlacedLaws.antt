@@ -17,9 +17,10 @@ use Rattle.eb_syntax.specs.declared.units.ScopeSetting.{ScopeSetting}
 use Rattle.eb_syntax.specs.declared.units.ScopeSetting.TheVariants as setting
 use Rattle.eb_syntax.specs.declared.units.EbUnit.{EbUnit}
 use Rattle.eb_syntax.specs.declared.units.EbUnit.TheVariants as eb
-use Rattle.eb_scoping.specs.FreeNames.{names_of, used, free}
+use Rattle.eb_resolved.specs.Unknown.{free}
+use Rattle.eb_scoping.specs.FreeNames.{names_of}
 use Rattle.eb_scoping.specs.Models.{AreMarked, AreMarkedBehind, IsModelUnit}
-use Rattle.eb_declared.specs.Parts.{Space, space_model, space_parameters, space_axioms, space_invariants, Position, at_context, in_axiom, in_invariant, in_event, at_assigned, Part, declares, uses, formula, all_declared, all_used, labelled_parts, context_clause_parts, parameter_names, guard_parts, assigned_parts, all_assigned, assignment_parts, event_parts, machine_clause_parts, setting_parts, context_parts, machine_parts, scope_parts, unit_parts, parts}
+use Rattle.eb_declared.specs.Parts.{Space, space_model, space_parameters, space_axioms, space_invariants, at_context, in_axiom, in_invariant, in_event, at_assigned, Part, declares, uses, formula, all_declared, all_used, labelled_parts, context_clause_parts, parameter_names, guard_parts, assigned_parts, all_assigned, assignment_parts, event_parts, machine_clause_parts, setting_parts, context_parts, machine_parts, scope_parts, unit_parts, parts}
 use Rattle.eb_lower.specs.Usages.{Usage, usage, part_usages}
 use Rattle.eb_lower.specs.steps.Known.{IsOfModel, IsPlaced, IsPlacedPart, ArePlaced}
 

@@ -12,7 +12,7 @@ use Rattle.eb_syntax.specs.declared.units.EbUnit.{EbUnit}
 use Rattle.eb_syntax.specs.declared.units.EbUnit.TheVariants as eb
 use Rattle.eb_scoping.specs.Models.{AreMarked, AreMarkedBehind, IsModelUnit, r_extended, Extends, extends_none, extends_more}
 use Rattle.eb_scoping.specs.Groups.{group, IsContextAt}
-use Rattle.eb_scoping.specs.FreeNames.{used}
+use Rattle.eb_resolved.specs.Unknown.{used}
 use Rattle.std.specs.Result.{IfOk}
 use Rattle.std.specs.declared.result.Result.{Result}
 use Rattle.std.specs.declared.result.Result.TheVariants.{Ok, Err}

@@ -10,7 +10,8 @@ use Rattle.eb_syntax.specs.declared.units.MachineClause.{MachineClause}
 use Rattle.eb_syntax.specs.declared.units.MachineClause.TheVariants as clause
 use Rattle.eb_syntax.specs.declared.units.EbUnit.{EbUnit}
 use Rattle.eb_syntax.specs.declared.units.EbUnit.TheVariants as eb
-use Rattle.eb_scoping.specs.FreeNames.{Use, used, free, names_of}
+use Rattle.eb_resolved.specs.Unknown.{Use, used, free}
+use Rattle.eb_scoping.specs.FreeNames.{names_of}
 use Rattle.eb_scoping.specs.Models.{machine_of, marked, Extends}
 use Rattle.eb_declared.specs.Parts.{Position, at_context, at_size, in_axiom, in_invariant, in_event, at_assigned, at_changed, Part, declares, uses, formula, parameter_names}
 use Rattle.eb_lower.specs.Unsupported.{is_initialisation}

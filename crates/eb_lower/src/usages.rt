@@ -1,5 +1,6 @@
 //! Where the parts of a text use names, in its order.
 ghost use Rattle.std.specs.Prelude.{[], ◌∷◌, ◌≡◌, ◌++◌, false, OnOk, map};
+ghost use Rattle.eb_resolved.specs.Unknown.{free, used};
 ghost use Rattle.eb_scoping.specs.FreeNames as uses;
 ghost use Rattle.eb_declared.specs.Seen as parts;
 ghost use Rattle.eb_lower.specs.Usages as spec;
@@ -23,7 +24,7 @@ fn push_name<'a>(
     name: &'a Name,
     out: &mut Vec<Usage<'a>>,
 ) -> Result<(), AllocError>
-    ensures { OnOk result (map seen.usage out.new.items ≡ map seen.usage out.old.items ++ spec.usage (parts.position position.entry) (uses.used name.now false) ∷ []) }
+    ensures { OnOk result (map seen.usage out.new.items ≡ map seen.usage out.old.items ++ spec.usage (parts.position position.entry) (used name.now false) ∷ []) }
 {
     out.push(Usage {
         used: Use {
@@ -57,7 +58,7 @@ fn push_formula<'a>(
     ast: &'a Ast,
     out: &mut Vec<Usage<'a>>,
 ) -> Result<(), AllocError>
-    ensures { OnOk result (map seen.usage out.new.items ≡ map seen.usage out.old.items ++ map (spec.usage (parts.position position.entry)) (uses.free ast.now)) }
+    ensures { OnOk result (map seen.usage out.new.items ≡ map seen.usage out.old.items ++ map (spec.usage (parts.position position.entry)) (free ast.now)) }
 {
     let found = free_uses(alloc, ast)?;
     push_uses(position, &found, out)

@@ -40,6 +40,10 @@ item_is_canonical [] k v a h e = let f : ⊥ = omega arith in elim f [ ]
 item_is_canonical (x ∷ xs) zero v (more c a) h e = rw e c
 item_is_canonical (x ∷ xs) (suc k) v (more c a) h e = item_is_canonical xs k v a (omega arith) e
 
+pub joined : (xs ys : List Value) → AreCanonical xs → AreCanonical ys → AreCanonical (xs ++ ys)
+joined [] ys a b = b
+joined (x ∷ xs) ys (more c a) b = more c (joined xs ys a b)
+
 pub given_are_canonical : (xs : List Value) → AreCanonical xs → AreCanonicalSlots (map (λ v. Some v) xs)
 given_are_canonical [] a = none
 given_are_canonical (x ∷ xs) (more c a) = value c (given_are_canonical xs a)

@@ -1,15 +1,17 @@
 -- Memberships in products and arrows, one side at a time.
-use Rattle.std.proofs.Common.{◌≡◌, refl, Bool, true, false, ◌&&◌, if◌then◌else◌, List, [], ◌∷◌, map, Option, Some, None, option_map, rules}
+use Rattle.std.proofs.Common.{◌≡◌, refl, Bool, true, false, ◌&&◌, if◌then◌else◌, List, [], ◌∷◌, Option, Some, None, option_map}
 use Rattle.std.specs.List.{list_all, filter_map, cons_option}
 use Rattle.eb_syntax.specs.declared.ast.Operator.{Operator}
 use Rattle.eb_value.specs.declared.value.Value.{Value}
 use Rattle.eb_value.specs.Comprehensions.{Maplet, members, maplet_in}
 use Rattle.eb_value.specs.Comprehensions as sets
-use Rattle.eb_value.specs.Values.{layer, set}
+use Rattle.eb_value.specs.Values.{layer}
 use Rattle.eb_term.specs.declared.operators.Side.TheVariants as side
 use Rattle.eb_meaning.specs.Meaning.{Slot, Env, Meaning, is_value, part_of, part_of_maplet, is_pair, is_pair_of, maplet_passes, is_relation, is_related, is_total, is_surjective}
 use Rattle.eb_meaning.specs.Meaning as spec
-use Rattle.eb_meaning.specs.steps.Evaluating.{has_all, value_has_all, side_covered, IsPlain, both_given, is_arrow_in, set_of_side}
+use Rattle.eb_meaning.specs.steps.Evaluating.{has_all, value_has_all, side_covered, IsPlain, both_given}
+use Rattle.eb_operations.specs.Operations.{set_of_side}
+use Rattle.eb_operations.specs.Tests.{is_arrow_in}
 
 -- one value and the others
 sorted : (f g p a b : Bool) → ((f && g) && (p && (a && b))) ≡ (p && ((f && a) && (g && b)))

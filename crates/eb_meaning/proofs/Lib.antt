@@ -1,4 +1,3 @@
-mod CanonicalMaps
 mod CanonicalSlots
 mod Forms
 mod Heads
@@ -6,7 +5,6 @@ mod Hypotheses
 mod Instances
 mod Lists
 mod MeaningAt
-mod Powers
 mod ReferenceLaws
 mod Referring
 mod Relations

@@ -4,7 +4,7 @@ use Rattle.eb_syntax.specs.declared.ast.Operator.{Operator}
 use Rattle.eb_syntax.specs.declared.ast.Operator.TheVariants as op
 use Rattle.eb_value.specs.declared.value.Value.{Value}
 use Rattle.eb_value.specs.Comprehensions.{members}
-use Rattle.eb_meaning.specs.declared.truth3.Truth3.TheVariants.{Undefined}
+use Rattle.eb_operations.specs.declared.truth3.Truth3.TheVariants.{Undefined}
 use Rattle.eb_meaning.specs.Truths.{tested, truth_of, negation}
 use Rattle.eb_meaning.specs.Meaning as spec
 use Rattle.eb_meaning.specs.Meaning.{Env, Meaning}

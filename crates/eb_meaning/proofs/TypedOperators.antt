@@ -17,8 +17,8 @@ use Rattle.eb_value.specs.Values.{int, truth, pair, set}
 use Rattle.eb_value.specs.Typing.{has_type, have_type, in_range}
 use Rattle.eb_value.specs.Comprehensions as sets
 use Rattle.eb_meaning.specs.Meaning.{Slot, Env, Meaning, with_two, with_ints, with_set, with_sets, int_by, value_by, call_by, bool_of, by_prefix, by_call}
-use Rattle.eb_meaning.specs.declared.truth3.Truth3.{Truth3}
-use Rattle.eb_meaning.specs.declared.truth3.Truth3.TheVariants.{True, False, Undefined}
+use Rattle.eb_operations.specs.declared.truth3.Truth3.{Truth3}
+use Rattle.eb_operations.specs.declared.truth3.Truth3.TheVariants.{True, False, Undefined}
 use Rattle.eb_meaning.proofs.Hypotheses.{Laws}
 use Rattle.eb_meaning.proofs.Lists.{both_so}
 use Rattle.eb_meaning.proofs.TypedOperations.{Fits, IsSetOfType, has_type-truth, has_type-pair, integer_fits, defined_fits, quotient_fits, power_fits, remainder_fits, on_integer, on_integers, on_two_slots, on_slot}

@@ -20,8 +20,8 @@ use Rattle.eb_value.specs.Comprehensions.{Maplet, members, maplet_in}
 use Rattle.eb_term.specs.declared.operators.Side.{Side}
 use Rattle.eb_term.specs.declared.operators.Side.TheVariants as side
 use Rattle.eb_term.specs.Typed.{part_of_shape, part_of_type, part_type_at, of_two}
-use Rattle.eb_meaning.specs.declared.truth3.Truth3.{Truth3}
-use Rattle.eb_meaning.specs.declared.truth3.Truth3.TheVariants.{True, False, Undefined}
+use Rattle.eb_operations.specs.declared.truth3.Truth3.{Truth3}
+use Rattle.eb_operations.specs.declared.truth3.Truth3.TheVariants.{True, False, Undefined}
 use Rattle.eb_meaning.specs.Meaning.{Slot, part_of, part_of_maplet, part_at, all_values, collected, chosen, over_range, maplet_of_projection}
 use Rattle.eb_meaning.specs.Fitting.{slot_has_type, AreOfTypes}
 use Rattle.eb_meaning.proofs.Hypotheses.{Laws}

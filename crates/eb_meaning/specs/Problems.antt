@@ -8,8 +8,8 @@ use Rattle.eb_term.specs.declared.problem.Choice.{Choice}
 use Rattle.eb_term.specs.declared.problem.Problem.{Problem}
 use Rattle.eb_term.specs.declared.term.Term.{Term}
 use Rattle.eb_term.specs.Leaves.{references}
-use Rattle.eb_meaning.specs.declared.truth3.Truth3.{Truth3}
-use Rattle.eb_meaning.specs.declared.truth3.Truth3.TheVariants.{True, Undefined}
+use Rattle.eb_operations.specs.declared.truth3.Truth3.{Truth3}
+use Rattle.eb_operations.specs.declared.truth3.Truth3.TheVariants.{True, Undefined}
 use Rattle.eb_meaning.specs.Meaning.{Slot, Env, is_value, slot_at, value_of, truth_in}
 
 -- each choice has a value of its type in the scope

@@ -4,25 +4,25 @@ ghost use Rattle.std.specs.List.{filter_map};
 ghost use Rattle.eb_value.specs.Canonical.{IsCanonical, AreCanonical};
 ghost use Rattle.eb_value.specs.Comprehensions as sets;
 ghost use Rattle.eb_value.specs.Values as value;
+ghost use Rattle.eb_operations.specs.Truths as truths;
 ghost use Rattle.eb_meaning.specs.Meaning as spec;
-ghost use Rattle.eb_meaning.specs.Truths as truths;
 ghost use Rattle.eb_meaning.specs.steps.Evaluating as step;
 
 use crate::leaves::leaf_at;
-use crate::operations::{
-    bool_of, called_on, converse, empty_set, negated, operation, part_copied, set_of_side,
-    set_with, sides, union_of,
+use crate::operands::{
+    both_given, called_with, compared, converse_of, defined, finite, found_has_each, functional_in,
+    is_found, made, negated_of, operation_with, part_of,
 };
-use crate::predicates::{
-    are_arrows, are_pairs, both_given, functional, has_all, has_each, is_arrow, is_partition,
-    is_power, is_product, is_whole, members, same, test,
-};
-use crate::sets::{identity, listed, projection};
 use crate::setting::{Found, Setting};
-use crate::truth3::Truth3;
+use eb_operations::{
+    Truth3, are_arrows, are_pairs, bool_of, decided, empty_set, identity, infinite_has_each,
+    is_partition, is_power, is_whole, listed, members, projection, set_of_side, set_with, sides,
+    union_of,
+};
 use eb_syntax::{Call, Operator, Prefix};
 use eb_term::{Binary, Binder, Head, Many, Side, Term, Unary};
 use eb_value::{Scope, Value, Values, canonical_values_have_canonical_parts, values_copied};
+use operator_kinds::{is_arrow, is_product};
 use std::alloc::{AllocError, Global};
 
 /// The truth of a predicate, Undefined for another term.
@@ -98,18 +98,9 @@ fn unary_truth(
 {
     match operator {
         Unary::Prefix(Prefix::Not) => Ok(truth_at(alloc, scope, &*at, part)?.negation()),
-        Unary::Call(Call::Finite) => match operand_at(alloc, scope, &*at, &*part)? {
-            Some(_) => Ok(Truth3::True),
-            None => Ok(Truth3::Undefined),
-        },
-        Unary::Defined => match operand_at(alloc, scope, &*at, &*part)? {
-            Some(_) => Ok(Truth3::True),
-            None => Ok(Truth3::False),
-        },
-        Unary::Functional => match operand_at(alloc, scope, &*at, &*part)? {
-            Some(relation) => Ok(Truth3::tested(functional(relation.get()))),
-            None => Ok(Truth3::Undefined),
-        },
+        Unary::Call(Call::Finite) => Ok(finite(operand_at(alloc, scope, &*at, &*part)?)),
+        Unary::Defined => Ok(defined(operand_at(alloc, scope, &*at, &*part)?)),
+        Unary::Functional => Ok(functional_in(operand_at(alloc, scope, &*at, &*part)?)),
         Unary::Prefix(Prefix::Minus)
         | Unary::Call(
             Call::PowerSet
@@ -138,16 +129,11 @@ fn connective(
     left: Truth3,
     right: &Term,
 ) -> Result<Truth3, AllocError>
-    ensures { IfOk result (λ t. t ≡ step.connective operator left ((spec.meaning scope.now right.now).truth at.now)) }
+    ensures { IfOk result (λ t. t ≡ truths.connective operator left ((spec.meaning scope.now right.now).truth at.now)) }
 {
-    match (operator, left) {
-        (Operator::And, Truth3::True)
-        | (Operator::Or, Truth3::False)
-        | (Operator::Implies, Truth3::True) => truth_at(alloc, scope, &*at, right),
-        (Operator::And, Truth3::False) => Ok(Truth3::False),
-        (Operator::Or, Truth3::True) | (Operator::Implies, Truth3::False) => Ok(Truth3::True),
-        (Operator::Equivalent, _) => Ok(left.equivalence(truth_at(alloc, scope, &*at, right)?)),
-        _ => Ok(Truth3::Undefined),
+    match decided(operator, left) {
+        Some(truth) => Ok(truth),
+        None => Ok(eb_operations::connective(operator, left, truth_at(alloc, scope, &*at, right)?)),
     }
 }
 
@@ -175,10 +161,7 @@ fn relation(
         Operator::NotProperSubsetOf => {
             Ok(proper_subset(alloc, scope, &*at, right, left)?.negation())
         }
-        _ => match operand_at(alloc, scope, &*at, &*right)? {
-            Some(right) => Ok(Truth3::tested(test(operator, left, right.get()))),
-            None => Ok(Truth3::Undefined),
-        },
+        _ => Ok(compared(operator, left, operand_at(alloc, scope, &*at, &*right)?)),
     }
 }
 
@@ -227,10 +210,7 @@ fn is_all_at(
 ) -> Result<bool, AllocError>
     ensures { IfOk result (λ b. b ≡ spec.is_value_of ((spec.meaning scope.now form.now).value at.now) set.now) }
 {
-    match operand_at(alloc, scope, &*at, &*form)? {
-        Some(whole) => Ok(same(set, whole.get())),
-        None => Ok(false),
-    }
+    Ok(is_found(set, operand_at(alloc, scope, &*at, &*form)?))
 }
 
 #[cycle(evaluation)]
@@ -344,7 +324,7 @@ fn all_at(
     ensures { IfOk result (λ o. o ≡ step.has_all (spec.meaning scope.now form.now) at.now range.now) }
 {
     match &form.head {
-        Head::Infinite(set) => Ok(Some(has_all(*set, range))),
+        Head::Infinite(set) => Ok(Some(infinite_has_each(*set, range))),
         Head::Unary(Unary::Call(Call::PowerSet), part) => {
             powers_at(alloc, scope, &*at, false, part.get(), range)
         }
@@ -399,10 +379,7 @@ fn value_has_all(
     requires { step.IsPlain (spec.meaning scope.now term.now) }
     ensures { IfOk result (λ o. o ≡ step.has_all (spec.meaning scope.now term.now) at.now range.now) }
 {
-    match operand_at(alloc, scope, &*at, &*term)? {
-        Some(set) => Ok(Some(has_each(set.get(), range))),
-        None => Ok(None),
-    }
+    Ok(found_has_each(operand_at(alloc, scope, &*at, &*term)?, range))
 }
 
 /// The same of `POW(F)`, and of `POW1(F)` where the empty set is no member.
@@ -511,10 +488,7 @@ pub(crate) fn operand_at<'a>(
         Head::Literal(_, _) | Head::Reference(_, _) | Head::Variable(_, _, _) => {
             Ok(leaf_at(&*at, &*term))
         }
-        _ => match value_at(alloc, scope, &*at, term)? {
-            Some(value) => Ok(Some(Found::owned(value))),
-            None => Ok(None),
-        },
+        _ => Ok(made(value_at(alloc, scope, &*at, term)?)),
     }
 }
 
@@ -592,18 +566,9 @@ fn unary_value(
 {
     match operator {
         Unary::Call(call) => call_value(alloc, scope, &*at, call, part),
-        Unary::Prefix(Prefix::Minus) => match operand_at(alloc, scope, &*at, &*part)? {
-            Some(value) => Ok(negated(value.get())),
-            None => Ok(None),
-        },
-        Unary::Inverse => match operand_at(alloc, scope, &*at, &*part)? {
-            Some(relation) => converse(alloc, relation.get()),
-            None => Ok(None),
-        },
-        Unary::Part(side) => match operand_at(alloc, scope, &*at, &*part)? {
-            Some(pair) => part_copied(alloc, side, pair.get()),
-            None => Ok(None),
-        },
+        Unary::Prefix(Prefix::Minus) => { Ok(negated_of(operand_at(alloc, scope, &*at, &*part)?)) }
+        Unary::Inverse => converse_of(alloc, operand_at(alloc, scope, &*at, &*part)?),
+        Unary::Part(side) => part_of(alloc, side, operand_at(alloc, scope, &*at, &*part)?),
         Unary::Prefix(Prefix::Not) | Unary::Defined | Unary::Functional => Ok(None),
     }
 }
@@ -628,10 +593,9 @@ fn call_value(
         | Call::Domain
         | Call::Range
         | Call::GeneralizedUnion
-        | Call::GeneralizedIntersection => match operand_at(alloc, scope, &*at, &*part)? {
-            Some(set) => called_on(alloc, call, set.get()),
-            None => Ok(None),
-        },
+        | Call::GeneralizedIntersection => {
+            called_with(alloc, call, operand_at(alloc, scope, &*at, &*part)?)
+        }
     }
 }
 
@@ -649,10 +613,12 @@ fn operator_value(
     ensures value { IfOk result (λ v. v ≡ option_and_then (spec.value_by operator left.now) ((spec.meaning scope.now right.now).value at.now)) }
     ensures canonical { IfOk result (λ o. IfSome o IsCanonical) }
 {
-    match operand_at(alloc, scope, &*at, &*right)? {
-        Some(right) => operation(alloc, operator, left, right.get()),
-        None => Ok(None),
-    }
+    operation_with(
+        alloc,
+        operator,
+        left,
+        operand_at(alloc, scope, &*at, &*right)?,
+    )
 }
 
 /// `{E, ..}`

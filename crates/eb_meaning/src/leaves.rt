@@ -5,8 +5,8 @@ ghost use Rattle.eb_value.specs.Canonical.{IsCanonical};
 ghost use Rattle.eb_meaning.specs.Meaning as spec;
 ghost use Rattle.eb_meaning.specs.steps.Evaluating as step;
 
-use crate::operations::part_at;
 use crate::setting::{Found, Setting};
+use eb_operations::part_at;
 use eb_term::{Head, Side, Term};
 use eb_value::Value;
 

@@ -8,7 +8,7 @@ ghost use Rattle.eb_meaning.specs.Slots.{AreCanonicalSlots};
 
 use crate::evaluation::{truth_at, value_at};
 use crate::setting::{Setting, slot_in};
-use crate::truth3::Truth3;
+use eb_operations::Truth3;
 use eb_term::{Head, Term};
 use eb_value::{Row, Scope, Value};
 use sqlite_items::Items;

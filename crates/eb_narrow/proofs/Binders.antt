@@ -23,7 +23,7 @@ use Rattle.eb_term.specs.declared.operators.Side.{Side}
 use Rattle.eb_term.specs.declared.operators.Side.TheVariants as side
 use Rattle.eb_term.specs.declared.term.Term.{Term}
 use Rattle.eb_term.specs.Terms as term
-use Rattle.eb_meaning.specs.declared.truth3.Truth3.TheVariants.{Undefined}
+use Rattle.eb_operations.specs.declared.truth3.Truth3.TheVariants.{Undefined}
 use Rattle.eb_meaning.specs.Truths as truths
 use Rattle.eb_meaning.specs.Truths.{for_all, exists}
 use Rattle.eb_meaning.specs.Meaning.{Slot, Env, Meaning, meaning, value_of, truth_in, inside, with_set, call_by, over_range, collected, all_values, maplet_of_projection, by_binder}

@@ -15,7 +15,7 @@ use Rattle.eb_term.specs.declared.operators.Infinite.TheVariants as infinite
 use Rattle.eb_term.specs.declared.operators.Binary.TheVariants as binary
 use Rattle.eb_term.specs.declared.term.Term.{Term}
 use Rattle.eb_term.specs.Terms as term
-use Rattle.eb_meaning.specs.declared.truth3.Truth3.TheVariants.{True}
+use Rattle.eb_operations.specs.declared.truth3.Truth3.TheVariants.{True}
 use Rattle.eb_meaning.specs.Truths as truths
 use Rattle.eb_meaning.specs.Truths.{truth_of, tested}
 use Rattle.eb_meaning.specs.Arithmetic.{int_of, interval}

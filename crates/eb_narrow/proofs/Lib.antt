@@ -17,3 +17,10 @@ mod Truths
 mod TypeLaws
 mod Views
 mod Copies
+mod NarrowAt
+mod NarrowKinds
+mod Capped
+mod Counted
+mod Nodes
+mod ByKinds
+mod NarrowArms

@@ -14,8 +14,8 @@ use Rattle.eb_value.specs.Comprehensions as sets
 use Rattle.eb_value.specs.Comprehensions.{members}
 use Rattle.eb_term.specs.declared.operators.Binary.TheVariants as binary
 use Rattle.eb_term.specs.declared.term.Term.{Term}
-use Rattle.eb_meaning.specs.declared.truth3.Truth3.{Truth3}
-use Rattle.eb_meaning.specs.declared.truth3.Truth3.TheVariants.{Undefined}
+use Rattle.eb_operations.specs.declared.truth3.Truth3.{Truth3}
+use Rattle.eb_operations.specs.declared.truth3.Truth3.TheVariants.{Undefined}
 use Rattle.eb_meaning.specs.Truths as truths
 use Rattle.eb_meaning.specs.Truths.{truth_of, tested}
 use Rattle.eb_meaning.specs.Arithmetic.{int_of}

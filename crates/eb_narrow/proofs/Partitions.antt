@@ -15,7 +15,7 @@ use Rattle.eb_value.specs.Values.{set, is_ascending, compare}
 use Rattle.eb_value.specs.Comprehensions as sets
 use Rattle.eb_value.specs.Comprehensions.{members, same, insert, set_of}
 use Rattle.eb_term.specs.declared.term.Term.{Term}
-use Rattle.eb_meaning.specs.declared.truth3.Truth3.{Truth3}
+use Rattle.eb_operations.specs.declared.truth3.Truth3.{Truth3}
 use Rattle.eb_meaning.specs.Truths as truths
 use Rattle.eb_meaning.specs.Truths.{truth_of, tested, for_all}
 use Rattle.eb_meaning.specs.Meaning.{Slot, Env, value_of, truth_in, with_two, test_by, value_by, all_values, is_partition, are_disjoint, is_empty}

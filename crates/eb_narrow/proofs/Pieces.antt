@@ -16,8 +16,8 @@ use Rattle.eb_term.specs.declared.term.Term.{Term}
 use Rattle.eb_term.specs.declared.term.Head.{the_lemmas}
 use Rattle.eb_term.specs.Terms as term
 use Rattle.eb_value.specs.declared.value.Value as value_module
-use Rattle.eb_meaning.specs.declared.truth3.Truth3.{Truth3}
-use Rattle.eb_meaning.specs.declared.truth3.Truth3.TheVariants.{True, Undefined}
+use Rattle.eb_operations.specs.declared.truth3.Truth3.{Truth3}
+use Rattle.eb_operations.specs.declared.truth3.Truth3.TheVariants.{True, Undefined}
 use Rattle.eb_meaning.specs.Truths as truths
 use Rattle.eb_meaning.specs.Truths.{truth_of, tested, for_all, exists}
 use Rattle.eb_meaning.specs.Meaning.{Slot, Env, meaning, value_of, truth_in, inside, with_two, test_by, value_by, truth_by, is_value, over_range, part_of}

@@ -17,8 +17,8 @@ use Rattle.eb_value.specs.Comprehensions.{Maplet, members, maplet_in}
 use Rattle.eb_term.specs.declared.operators.Unary.TheVariants as unary
 use Rattle.eb_term.specs.declared.operators.Side.TheVariants as side
 use Rattle.eb_term.specs.declared.term.Term.{Term}
-use Rattle.eb_meaning.specs.declared.truth3.Truth3.{Truth3}
-use Rattle.eb_meaning.specs.declared.truth3.Truth3.TheVariants.{Undefined}
+use Rattle.eb_operations.specs.declared.truth3.Truth3.{Truth3}
+use Rattle.eb_operations.specs.declared.truth3.Truth3.TheVariants.{Undefined}
 use Rattle.eb_meaning.specs.Truths as truths
 use Rattle.eb_meaning.specs.Truths.{truth_of, tested, for_all}
 use Rattle.eb_meaning.specs.Meaning.{Slot, Env, Meaning, meaning, value_of, truth_in, with_two, with_set, with_sets, call_by, value_by, where_given, is_value, has_value, is_value_of, part_of, is_set, is_pair, is_relation, is_related, is_total, is_surjective, is_function, is_injection, maplet_passes, set_in}

@@ -14,7 +14,7 @@ use Rattle.eb_value.specs.Comprehensions.{members}
 use Rattle.eb_term.specs.declared.operators.Binder.TheVariants as binder
 use Rattle.eb_term.specs.declared.term.Term.{Term}
 use Rattle.eb_term.specs.Terms as term
-use Rattle.eb_meaning.specs.declared.truth3.Truth3.TheVariants.{True, Undefined}
+use Rattle.eb_operations.specs.declared.truth3.Truth3.TheVariants.{True, Undefined}
 use Rattle.eb_meaning.specs.Truths as truths
 use Rattle.eb_meaning.specs.Truths.{truth_of, tested, for_all, exists}
 use Rattle.eb_meaning.specs.Meaning.{Slot, meaning, value_of, truth_in, inside, with_two, test_by, where_given, is_value, is_value_of, over_range}

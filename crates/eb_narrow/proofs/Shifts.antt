@@ -42,22 +42,22 @@ pub all_is : (scope : Scope) (o : Binder) (ty : EbType) (body : Term)
     → meaning scope (term.all o ty body) ≡ by_binder o (λ env. Some (vals scope ty)) (meaning scope body)
 all_is scope o ty body = search (rules, the_lemmas)
 
-shift_variable : (from by k : ℕ) (path : List Side) (ty : EbType) → shift from by (term.variable k path ty) ≡ term.variable (if nat_lt k from then k else k + by) path ty
+pub shift_variable : (from by k : ℕ) (path : List Side) (ty : EbType) → shift from by (term.variable k path ty) ≡ term.variable (if nat_lt k from then k else k + by) path ty
 shift_variable from by k path ty = search (rules, the_lemmas)
 
-shift_unary : (from by : ℕ) (o : Unary) (a : Term) → shift from by (term.unary o a) ≡ term.unary o (shift from by a)
+pub shift_unary : (from by : ℕ) (o : Unary) (a : Term) → shift from by (term.unary o a) ≡ term.unary o (shift from by a)
 shift_unary from by o a = search (rules, the_lemmas)
 
-shift_binary : (from by : ℕ) (o : Binary) (a b : Term) → shift from by (term.binary o a b) ≡ term.binary o (shift from by a) (shift from by b)
+pub shift_binary : (from by : ℕ) (o : Binary) (a b : Term) → shift from by (term.binary o a b) ≡ term.binary o (shift from by a) (shift from by b)
 shift_binary from by o a b = search (rules, the_lemmas)
 
-shift_many : (from by : ℕ) (o : Many) (ts : List Term) → shift from by (term.many o ts) ≡ term.many o (map (shift from by) ts)
+pub shift_many : (from by : ℕ) (o : Many) (ts : List Term) → shift from by (term.many o ts) ≡ term.many o (map (shift from by) ts)
 shift_many from by o ts = search (rules, the_lemmas)
 
-shift_over : (from by : ℕ) (o : Binder) (range body : Term) → shift from by (term.over o range body) ≡ term.over o (shift from by range) (shift from by body)
+pub shift_over : (from by : ℕ) (o : Binder) (range body : Term) → shift from by (term.over o range body) ≡ term.over o (shift from by range) (shift from by body)
 shift_over from by o range body = search (rules, the_lemmas)
 
-shift_all : (from by : ℕ) (o : Binder) (ty : EbType) (body : Term) → shift from by (term.all o ty body) ≡ term.all o ty (shift from by body)
+pub shift_all : (from by : ℕ) (o : Binder) (ty : EbType) (body : Term) → shift from by (term.all o ty body) ≡ term.all o ty (shift from by body)
 shift_all from by o ty body = search (rules, the_lemmas)
 
 -- ---- places past others

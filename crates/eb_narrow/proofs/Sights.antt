@@ -18,8 +18,8 @@ use Rattle.eb_term.specs.declared.operators.Many.{Many}
 use Rattle.eb_term.specs.declared.operators.Many.TheVariants as many
 use Rattle.eb_term.specs.declared.operators.Binder.{Binder}
 use Rattle.eb_term.specs.declared.operators.Binder.TheVariants as binder
-use Rattle.eb_meaning.specs.declared.truth3.Truth3.{Truth3}
-use Rattle.eb_meaning.specs.declared.truth3.Truth3.TheVariants.{Undefined}
+use Rattle.eb_operations.specs.declared.truth3.Truth3.{Truth3}
+use Rattle.eb_operations.specs.declared.truth3.Truth3.TheVariants.{Undefined}
 use Rattle.eb_meaning.specs.Truths.{tested, for_all, exists}
 use Rattle.eb_meaning.specs.Meaning.{Slot, Env, Meaning, inside, by_call, by_unary, by_operator, by_binary, by_many, by_binder, over_range, collected, all_values, is_partition, is_value, has_value}
 

@@ -2,8 +2,8 @@
 use Rattle.std.proofs.Common.{◌≡◌, ◌∙◌, Bool, true, false, not, ◌&&◌, if◌then◌else◌, List, [], ◌∷◌, map, None, refl, ap}
 use Rattle.std.specs.List.{list_all}
 use Rattle.eb_value.specs.declared.value.Value.{Value}
-use Rattle.eb_meaning.specs.declared.truth3.Truth3.{Truth3}
-use Rattle.eb_meaning.specs.declared.truth3.Truth3.TheVariants.{True, False, Undefined}
+use Rattle.eb_operations.specs.declared.truth3.Truth3.{Truth3}
+use Rattle.eb_operations.specs.declared.truth3.Truth3.TheVariants.{True, False, Undefined}
 use Rattle.eb_meaning.specs.Truths.{truth_of, negation, both, either, for_all, exists}
 use Rattle.eb_meaning.specs.Meaning.{where_given}
 

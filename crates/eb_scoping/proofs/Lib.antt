@@ -5,3 +5,8 @@ mod IndexLaws
 mod MarkLaws
 mod UseLaws
 mod FreeLaws
+mod AstInduction
+mod OpenLaws
+mod ReadLaws
+mod UseReadLaws
+mod FreeReadLaws

@@ -1,3 +1,4 @@
 pub mod Heads
 pub mod Marks
 pub mod Walking
+pub mod FreeByParts

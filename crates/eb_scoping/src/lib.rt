@@ -9,4 +9,4 @@ mod uses;
 pub use contexts::{Groups, Walk, context_places, grouped, lead_walk, walk_from, walk_reaches};
 pub use models::{machine, marks_are_determined, model_units};
 pub use sets::{NameSet, has_name, insert_name};
-pub use uses::{Use, built_names, free_uses, is_among, names, pattern_names};
+pub use uses::{Use, free_uses, is_among, names, pattern_names};

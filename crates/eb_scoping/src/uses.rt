@@ -1,14 +1,15 @@
 //! The free names of a formula.
 ghost use Rattle.std.specs.Prelude.{[], ◌∷◌, ◌≡◌, ◌++◌, ◌||◌, ℕ, List, OnOk, IfOk, map, not, if◌then◌else◌};
 ghost use Rattle.std.specs.List.{flat_map};
+ghost use Rattle.eb_resolved.specs.Unknown.{free, used};
 ghost use Rattle.eb_scoping.specs.FreeNames as spec;
+ghost use Rattle.eb_scoping.specs.steps.FreeByParts.{free_by_parts, plain_names, unbound};
 ghost use Rattle.eb_scoping.specs.Sets.{has_text};
 
-use super::sets::{NameSet, has_name, insert_name, name_set};
-use eb_names::{Name, Names};
+use super::sets::{NameSet, has_name, name_set};
+use eb_names::Name;
 use eb_syntax::{Ast, Bound, Identifier, Mark, Node};
 use std::alloc::{AllocError, Global};
-use std::collections::BTreeSet;
 
 /// A name where a formula uses it, and whether with a `'`, which the name leaves out.
 #[derive(Clone, Copy)]
@@ -72,7 +73,7 @@ fn bound_names<'a>(alloc: Global, bound: &'a Bound) -> Result<Vec<&'a Name>, All
 
 /// The names that these uses have without a `'`.
 fn plain_names<'a>(alloc: Global, uses: &[Use<'a>]) -> Result<Vec<&'a Name>, AllocError>
-    ensures { IfOk result (λ names. map (λ x. x.now) names.items ≡ spec.plain_names (map spec.seen uses.now)) }
+    ensures { IfOk result (λ names. map (λ x. x.now) names.items ≡ plain_names (map spec.seen uses.now)) }
 {
     let mut names = Vec::new(alloc);
     for used in uses {
@@ -97,7 +98,7 @@ fn push_unbound<'a>(
     uses: &[Use<'a>],
     out: &mut Vec<Use<'a>>,
 ) -> Result<(), AllocError>
-    ensures { OnOk result (map spec.seen out.new.items ≡ map spec.seen out.old.items ++ spec.unbound (map (λ x. x.now) names.now) (map spec.seen uses.now)) }
+    ensures { OnOk result (map spec.seen out.new.items ≡ map spec.seen out.old.items ++ unbound (map (λ x. x.now) names.now) (map spec.seen uses.now)) }
 {
     let set = name_set(alloc, names)?;
     for used in uses {
@@ -109,7 +110,7 @@ fn push_unbound<'a>(
 }
 
 fn push_use<'a>(name: &'a Name, is_primed: bool, out: &mut Vec<Use<'a>>) -> Result<(), AllocError>
-    ensures { OnOk result (map spec.seen out.new.items ≡ map spec.seen out.old.items ++ spec.used name.now is_primed ∷ []) }
+    ensures { OnOk result (map spec.seen out.new.items ≡ map spec.seen out.old.items ++ used name.now is_primed ∷ []) }
 {
     out.push(Use { name, is_primed })?;
     Ok(())
@@ -118,7 +119,7 @@ fn push_use<'a>(name: &'a Name, is_primed: bool, out: &mut Vec<Use<'a>>) -> Resu
 /// Writes the free names of the formula to the end.
 #[cycle(walking)]
 fn push_free<'a>(alloc: Global, ast: &'a Ast, out: &mut Vec<Use<'a>>) -> Result<(), AllocError>
-    ensures { OnOk result (map spec.seen out.new.items ≡ map spec.seen out.old.items ++ spec.free ast.now) }
+    ensures { OnOk result (map spec.seen out.new.items ≡ map spec.seen out.old.items ++ free_by_parts ast.now) }
 {
     match &ast.node {
         Node::Number(_) | Node::Constant(_) => Ok(()),
@@ -166,7 +167,7 @@ fn push_free<'a>(alloc: Global, ast: &'a Ast, out: &mut Vec<Use<'a>>) -> Result<
 
 #[cycle(walking)]
 fn push_row<'a>(alloc: Global, members: &'a [Ast], out: &mut Vec<Use<'a>>) -> Result<(), AllocError>
-    ensures { OnOk result (map spec.seen out.new.items ≡ map spec.seen out.old.items ++ flat_map spec.free members.now) }
+    ensures { OnOk result (map spec.seen out.new.items ≡ map spec.seen out.old.items ++ flat_map free_by_parts members.now) }
 {
     for member in members {
         push_free(alloc, member, out)?;
@@ -176,50 +177,9 @@ fn push_row<'a>(alloc: Global, members: &'a [Ast], out: &mut Vec<Use<'a>>) -> Re
 
 /// The free names of a formula, one use after another in the order of the text. The only error is want of memory.
 pub fn free_uses<'a>(alloc: Global, ast: &'a Ast) -> Result<Vec<Use<'a>>, AllocError>
-    ensures { IfOk result (λ uses. map spec.seen uses.items ≡ spec.free ast.now) }
+    ensures { IfOk result (λ uses. map spec.seen uses.items ≡ free ast.now) }
 {
     let mut uses = Vec::new(alloc);
     push_free(alloc, ast, &mut uses)?;
     Ok(uses)
-}
-
-/// The identifiers that `{e|P}` binds, whatever P is: the free names of `e` without a `'`, each once, in the order of their
-/// first uses. The only error is want of memory.
-pub fn built_names(alloc: Global, e: &Ast) -> Result<Names, AllocError>
-    ensures { IfOk result (λ names. names ≡ spec.built_names e.now) }
-{
-    let uses = free_uses(alloc, e)?;
-    let plain = plain_names(alloc, &uses)?;
-    firsts(alloc, &plain)
-}
-
-/// Writes the name to the end where it is not there. The set has the names that are there.
-fn push_first<'a>(
-    alloc: Global,
-    name: &'a Name,
-    there: &mut NameSet<'a>,
-    names: &mut Names,
-) -> Result<(), AllocError>
-    requires { (q : List ℕ) → has_text there.old q ≡ spec.is_among names.old q }
-    ensures there { OnOk result ((q : List ℕ) → has_text there.new q ≡ spec.is_among names.new q) }
-    ensures names { OnOk result (names.new ≡ (if spec.is_among names.old name.now then names.old else names.old ++ name.now ∷ [])) }
-{
-    if has_name(there, name.as_str()) {
-        return Ok(());
-    }
-    insert_name(there, name.as_str())?;
-    names.push(name.copied(alloc)?)?;
-    Ok(())
-}
-
-/// Each name once, where it comes first.
-fn firsts(alloc: Global, plain: &[&Name]) -> Result<Names, AllocError>
-    ensures { IfOk result (λ names. names ≡ spec.firsts (map (λ x. x.now) plain.now)) }
-{
-    let mut names = Names::new(alloc);
-    let mut there = BTreeSet::new(alloc);
-    for name in plain {
-        push_first(alloc, *name, &mut there, &mut names)?;
-    }
-    Ok(names)
 }

@@ -19,10 +19,12 @@ use Rattle.eb_typing.specs.declared.generated.Letters.{Letters}
 use Rattle.eb_typing.specs.declared.generated.Generated.{Generated}
 use Rattle.type_table.specs.Rows.{Sort, predicate, expression, Choice, chosen, sort}
 use Rattle.eb_typing.specs.Numbering.{Numbered, typed, unknown, tuple, made, Parts, none, also}
-use Rattle.eb_typing.specs.Typing.{Group, ungrouped, paired, closed, with_type, grouped, tuple_type, HasSort, HaveSorts, ArePredicates}
+use Rattle.eb_resolved.specs.Patterns.{Group, ungrouped, paired, closed, with_one, grouped, pattern_from}
+use Rattle.eb_typing.specs.Typing.{HasSort, HaveSorts, ArePredicates}
 use Rattle.eb_typing.specs.steps.Generating as g
 use Rattle.eb_typing.specs.steps.Generating.{put, contradict, letter, state, build, fit, fits, row, gen, gens, checked, paired_with, token, tuple_end, tuple_made, demand, demanded, letters_at, after_letters, rank, width, widest}
-use Rattle.eb_typing.proofs.Soundness.{sort_at, group_at, all_demanded}
+use Rattle.eb_typing.specs.steps.Demanding.{all_demanded}
+use Rattle.eb_typing.proofs.Soundness.{sort_at, group_at}
 use Rattle.eb_typing.proofs.Extending.{has_get, Grows, stays, never, puts, then, weaker, news, fresh, new_power, new_product, inner, power_put, relation_put}
 
 abbrev Claim : Type 1
@@ -278,7 +280,7 @@ some_is : (t u : EbType) → Some t ≡ Some u → t ≡ u
 some_is t u e = cc
 
 paired_complete : {types : List EbType} (o : Option ℕ) (q : Option EbType) (k : ℕ) (u : EbType) (h : Generated) (G : Claim) → AlikeOption o q → ((σ : ℕ → EbType) → G σ → option_map σ o ≡ q) → ((σ : ℕ → EbType) → G σ → σ k ≡ u)
-    → Grows types h (paired_with o k h).1 G (λ σ. G σ × (σ (paired_with o k h).0 ≡ paired q u))
+    → Grows types h (paired_with o k h).1 G (λ σ. G σ × (σ (paired_with o k h).0 ≡ paired type.product q u))
 paired_complete None None k u h G a x y = stays h G (λ σ. G σ × (σ k ≡ u)) (λ σ has e. (e, y σ e))
 paired_complete (Some j) (Some s) k u h G a x y = new_product j k s u h G (λ σ e. some_is (σ j) s (x σ e)) y
 paired_complete None (Some t) k u h G a x y = absurd a
@@ -312,36 +314,36 @@ group_of : (x y : Option EbType) (xs ys : List (Option EbType)) (m n : ℕ) → 
 group_of x y xs ys m n a b c = cc
 
 identifier_step : {types : List EbType} (asked : ℕ) (t : Group ℕ) (u w : Group EbType) (h : Generated) (x : Identifier) (G : Claim) (s : EbType) → length types ≡ asked → Alike t u → ((σ : ℕ → EbType) → G σ → group_at σ t ≡ u)
-    → slice_get types u.next ≡ Some s → the_group (Some (paired u.here s)) u.around (u.next + 1) ≡ w → Step types asked t u w h (mark.Identifier x) G
+    → slice_get types u.next ≡ Some s → the_group (Some (paired type.product u.here s)) u.around (u.next + 1) ≡ w → Step types asked t u w h (mark.Identifier x) G
 identifier_step {types} asked t u w h x G s count a is e f =
     let k = t.next in
     let h1 = checked asked k h in
     let q = paired_with t.here k h1 in
     let e2 : slice_get types k ≡ Some s = rw a.next e in
     let E : Claim = λ σ. G σ × (σ k ≡ s) in
-    let F : Claim = λ σ. E σ × (σ q.0 ≡ paired u.here s) in
+    let F : Claim = λ σ. E σ × (σ q.0 ≡ paired type.product u.here s) in
     record {
       alike = subst (λ z. Alike (token asked (t, h) (mark.Identifier x)).0 z) f (record { here = tt; around = a.around; next = ap (λ z. z + 1) a.next });
       grows = weaker h q.1 G F (Group_as G (token asked (t, h) (mark.Identifier x)).0 w)
-          (λ σ y. (y.0.0, group_of (Some (σ q.0)) (Some (paired u.here s)) (map (option_map σ) t.around) u.around (k + 1) (u.next + 1) (ap Some y.1) (group_around σ t u (is σ y.0.0)) (ap (λ z. z + 1) a.next) ∙ f))
+          (λ σ y. (y.0.0, group_of (Some (σ q.0)) (Some (paired type.product u.here s)) (map (option_map σ) t.around) u.around (k + 1) (u.next + 1) (ap Some y.1) (group_around σ t u (is σ y.0.0)) (ap (λ z. z + 1) a.next) ∙ f))
           (then h h1 q.1 G E F (checked_complete asked k s h G count e2)
           (paired_complete t.here u.here k s h1 E a.here (λ σ y. group_here σ t u (is σ y.0)) (λ σ y. y.1)));
     }
 
-with_type_is : (u w : Group EbType) (n : ℕ) (o : Option EbType) → with_type u n o ≡ Some w → (s : EbType) × (o ≡ Some s) × (the_group (Some (paired u.here s)) u.around n ≡ w)
-with_type_is u w n (Some s) e = (s, refl, cc)
-with_type_is u w n None e = absurd cc
+with_one_is : (u w : Group EbType) (n : ℕ) (o : Option EbType) → with_one type.product u n o ≡ Some w → (s : EbType) × (o ≡ Some s) × (the_group (Some (paired type.product u.here s)) u.around n ≡ w)
+with_one_is u w n (Some s) e = (s, refl, cc)
+with_one_is u w n None e = absurd cc
 
 close_step : {types : List EbType} (n : ℕ) (h : Generated) (around : List (Option ℕ)) (outer : List (Option EbType)) (here : Option ℕ) (last : Option EbType) (w : Group EbType) (G : Claim)
-    → AlikeList around outer → AlikeOption here last → ((σ : ℕ → EbType) → G σ → map (option_map σ) around ≡ outer) → ((σ : ℕ → EbType) → G σ → option_map σ here ≡ last) → closed outer n last ≡ Some w
+    → AlikeList around outer → AlikeOption here last → ((σ : ℕ → EbType) → G σ → map (option_map σ) around ≡ outer) → ((σ : ℕ → EbType) → G σ → option_map σ here ≡ last) → closed type.product outer n last ≡ Some w
     → Alike (g.closed_by n h around here).0 w × Grows types h (g.closed_by n h around here).1 G (Group_as G (g.closed_by n h around here).0 w)
 close_step n h (o ∷ around) (q ∷ outer) (Some k) (Some s) w G a b x y e =
-    let f : the_group (Some (paired q s)) outer n ≡ w = cc in
+    let f : the_group (Some (paired type.product q s)) outer n ≡ w = cc in
     let r = paired_with o k h in
-    let E : Claim = λ σ. G σ × (σ r.0 ≡ paired q s) in (
+    let E : Claim = λ σ. G σ × (σ r.0 ≡ paired type.product q s) in (
       subst (λ z. Alike (g.closed_by n h (o ∷ around) (Some k)).0 z) f (record { here = tt; around = a.1; next = refl }),
       weaker h r.1 G E (Group_as G (g.closed_by n h (o ∷ around) (Some k)).0 w)
-          (λ σ z. (z.0, group_of (Some (σ r.0)) (Some (paired q s)) (map (option_map σ) around) outer n n (ap Some z.1) (option_tail (option_map σ o) q (map (option_map σ) around) outer (x σ z.0)) refl ∙ f))
+          (λ σ z. (z.0, group_of (Some (σ r.0)) (Some (paired type.product q s)) (map (option_map σ) around) outer n n (ap Some z.1) (option_tail (option_map σ o) q (map (option_map σ) around) outer (x σ z.0)) refl ∙ f))
           (paired_complete o q k s h G a.0 (λ σ z. option_head (option_map σ o) q (map (option_map σ) around) outer (x σ z)) (λ σ z. some_is (σ k) s (y σ z))),
     )
 close_step n h around [] here last w G a b x y e = absurd cc
@@ -350,9 +352,9 @@ close_step n h [] (q ∷ outer) here (Some s) w G a b x y e = absurd a
 close_step n h (o ∷ around) (q ∷ outer) None (Some s) w G a b x y e = absurd b
 
 token_complete : {types : List EbType} (asked : ℕ) (t : Group ℕ) (u w : Group EbType) (h : Generated) (m : Mark) (G : Claim) → length types ≡ asked → Alike t u → ((σ : ℕ → EbType) → G σ → group_at σ t ≡ u)
-    → grouped types u m ≡ Some w → Step types asked t u w h m G
+    → grouped (slice_get types) type.product u m ≡ Some w → Step types asked t u w h m G
 token_complete {types} asked t u w h (mark.Identifier x) G count a is e =
-    let i = with_type_is u w (u.next + 1) (slice_get types u.next) e in
+    let i = with_one_is u w (u.next + 1) (slice_get types u.next) e in
     identifier_step asked t u w h x G i.0 count a is i.1 i.2
 token_complete {types} asked t u w h mark.MapsTo G count a is e =
     let f : u ≡ w = cc in
@@ -364,7 +366,7 @@ token_complete {types} asked t u w h mark.Open G count a is e =
       grows = stays h G (Group_as G (g.opened t) (the_group None (u.here ∷ u.around) u.next)) (λ σ has y. (y, ap (λ z. the_group None (z.here ∷ z.around) z.next) (is σ y)));
     })
 token_complete asked t u w h mark.Close G count a is e =
-    let e2 : closed u.around t.next u.here ≡ Some w = rw a.next e in
+    let e2 : closed type.product u.around t.next u.here ≡ Some w = rw a.next e in
     let c = close_step t.next h t.around u.around t.here u.here w G a.around a.here (λ σ y. group_around σ t u (is σ y)) (λ σ y. group_here σ t u (is σ y)) e2 in
     record { alike = c.0; grows = c.1 }
 
@@ -379,10 +381,10 @@ end_complete None (Some t) s h G a x e = absurd a
 end_complete None None s h G a x e = absurd cc
 
 tuple_complete : {types : List EbType} (asked : ℕ) (ms : List Mark) (t : Group ℕ) (u : Group EbType) (s : EbType) (h : Generated) (G : Claim) → length types ≡ asked → Alike t u → ((σ : ℕ → EbType) → G σ → group_at σ t ≡ u)
-    → tuple_type types ms u ≡ Some s → (let e = fold (token asked) (t, h) ms in Grows types h (tuple_end e.0.here e.1).1 G (Found_as G (tuple_end e.0.here e.1).0 (expression s)))
+    → pattern_from (slice_get types) type.product ms u ≡ Some s → (let e = fold (token asked) (t, h) ms in Grows types h (tuple_end e.0.here e.1).1 G (Found_as G (tuple_end e.0.here e.1).0 (expression s)))
 tuple_complete asked [] t u s h G count a is e = end_complete t.here u.here s h G a.here (λ σ y. group_here σ t u (is σ y)) e
 tuple_complete {types} asked (m ∷ ms) t u s h G count a is e =
-    let i = then_some (tuple_type types ms) (grouped types u m) s e in
+    let i = then_some (pattern_from (slice_get types) type.product ms) (grouped (slice_get types) type.product u m) s e in
     let w = i.0 in
     let step = token_complete asked t u w h m G count a is i.1 in
     let k = token asked (t, h) m in
@@ -428,8 +430,9 @@ demand_complete (Expression k) h G is = never h (contradict k h) G G refl (λ σ
 pub all_complete : {types : List EbType} (asked : ℕ) (h : Generated) (ts : List Numbered) (G : Claim) → length types ≡ asked → ArePredicates types ts → Grows types h (all_demanded asked h ts) G G
 all_complete asked h [] G count w = stays h G G (λ σ has y. y)
 all_complete asked h (t ∷ ts) G count w =
-    let k = all_demanded asked h ts in
-    let q = gen asked t k in
+    let q = gen asked t h in
+    let k = demand q.0 q.1 in
     let F = Found_as G q.0 predicate in
-    then h k (demand q.0 q.1) G G G (all_complete asked h ts G count w.1)
-    (weaker k (demand q.0 q.1) G F G (λ σ y. y.0) (then k q.1 (demand q.0 q.1) G F F (gen_complete t predicate asked k G count w.0) (demand_complete q.0 q.1 F (λ σ y. y.1))))
+    then h k (all_demanded asked k ts) G G G
+    (weaker h k G F G (λ σ y. y.0) (then h q.1 k G F F (gen_complete t predicate asked h G count w.0) (demand_complete q.0 q.1 F (λ σ y. y.1))))
+    (all_complete asked k ts G count w.1)

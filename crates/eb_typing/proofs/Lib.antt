@@ -4,7 +4,6 @@ pub mod Solving
 pub mod Soundness
 pub mod Extending
 pub mod Completeness
-pub mod Marking
-pub mod Collecting
+pub mod Owing
 pub mod Equations
 pub mod Bounds

@@ -18,9 +18,11 @@ use Rattle.eb_typing.specs.declared.generated.Letters.{Letters}
 use Rattle.eb_typing.specs.declared.generated.Generated.{Generated}
 use Rattle.type_table.specs.Rows.{Sort, predicate, expression, Choice, chosen, sort}
 use Rattle.eb_typing.specs.Numbering.{Numbered, typed, unknown, tuple, made, Parts, none, also}
-use Rattle.eb_typing.specs.Typing.{Group, ungrouped, paired, closed, grouped, tuple_type, HasSort, HaveSorts, ArePredicates}
+use Rattle.eb_resolved.specs.Patterns.{Group, ungrouped, paired, closed, grouped, pattern_from}
+use Rattle.eb_typing.specs.Typing.{HasSort, HaveSorts, ArePredicates}
 use Rattle.eb_typing.specs.steps.Generating as g
 use Rattle.eb_typing.specs.steps.Generating.{put, contradict, letter, state, build, fit, fits, row, gen, gens, checked, paired_with, token, tuple_end, tuple_made, demand, demanded, letters_at, after_letters, widest}
+use Rattle.eb_typing.specs.steps.Demanding.{all_demanded}
 use Rattle.eb_typing.proofs.Solving.{Fit, fits_put, fits_contradict, slice_get-types_below}
 
 -- what was found, where numbers have these types
@@ -153,12 +155,12 @@ checked_sound σ asked k h s = checked_by σ asked k h (ltb k asked) refl s
 abbrev pub group_at : (ℕ → EbType) → Group ℕ → Group EbType
 group_at σ t = record { here = option_map σ t.here; around = map (option_map σ) t.around; next = t.next }
 
-pair_sound : (σ : ℕ → EbType) (o : Option ℕ) (k : ℕ) (h : Generated) → Fit σ (paired_with o k h).1 → Fit σ h × (σ (paired_with o k h).0 ≡ paired (option_map σ o) (σ k))
+pair_sound : (σ : ℕ → EbType) (o : Option ℕ) (k : ℕ) (h : Generated) → Fit σ (paired_with o k h).1 → Fit σ h × (σ (paired_with o k h).0 ≡ paired type.product (option_map σ o) (σ k))
 pair_sound σ None k h s = (s, refl)
 pair_sound σ (Some j) k h s = product_made σ j k h s
 
 closed_sound : (σ : ℕ → EbType) (n : ℕ) (h : Generated) (around : List (Option ℕ)) (here : Option ℕ) → Fit σ (g.closed_by n h around here).1
-    → Fit σ h × (closed (map (option_map σ) around) n (option_map σ here) ≡ Some (group_at σ (g.closed_by n h around here).0))
+    → Fit σ h × (closed type.product (map (option_map σ) around) n (option_map σ here) ≡ Some (group_at σ (g.closed_by n h around here).0))
 closed_sound σ n h (o ∷ around) (Some k) s =
     let a = pair_sound σ o k h s in
     (a.0, ap (λ t. Some (record { here = Some t; around = map (option_map σ) around; next = n })) (sym a.1))
@@ -166,7 +168,7 @@ closed_sound σ n h (o ∷ around) None s = absurd (fits_contradict σ 0 h s)
 closed_sound σ n h [] here s = absurd (fits_contradict σ 0 h s)
 
 token_sound : (σ : ℕ → EbType) (asked : ℕ) (t : Group ℕ) (h : Generated) (m : Mark) → Fit σ (token asked (t, h) m).1
-    → Fit σ h × (grouped (types_below asked σ) (group_at σ t) m ≡ Some (group_at σ (token asked (t, h) m).0))
+    → Fit σ h × (grouped (slice_get (types_below asked σ)) type.product (group_at σ t) m ≡ Some (group_at σ (token asked (t, h) m).0))
 token_sound σ asked t h (mark.Identifier x) s =
     let a = pair_sound σ t.here t.next (checked asked t.next h) s in
     let b = checked_sound σ asked t.next h a.0 in
@@ -179,7 +181,7 @@ record TupleSound (σ : ℕ → EbType) (asked : ℕ) (ms : List Mark) (t : Grou
   before : Fit σ h
   number : ℕ
   is : found ≡ Expression number
-  type : tuple_type (types_below asked σ) ms (group_at σ t) ≡ Some (σ number)
+  type : pattern_from (slice_get (types_below asked σ)) type.product ms (group_at σ t) ≡ Some (σ number)
 
 tuple_sound : (σ : ℕ → EbType) (asked : ℕ) (ms : List Mark) (s : Group ℕ × Generated) → (let e = fold (token asked) s ms in Fit σ (tuple_end e.0.here e.1).1 → TupleSound σ asked ms s.0 s.1 (tuple_end e.0.here e.1).0)
 tuple_sound σ asked [] s k = end s.0.here s.0 refl k
@@ -190,7 +192,7 @@ tuple_sound σ asked [] s k = end s.0.here s.0 refl k
 tuple_sound σ asked (m ∷ ms) s k =
     let a = tuple_sound σ asked ms (token asked s m) k in
     let b = token_sound σ asked s.0 s.1 m a.before in
-    record { before = b.0; number = a.number; is = a.is; type = ap (λ o. option_and_then (tuple_type (types_below asked σ) ms) o) b.1 ∙ a.type }
+    record { before = b.0; number = a.number; is = a.is; type = ap (λ o. option_and_then (pattern_from (slice_get (types_below asked σ)) type.product ms) o) b.1 ∙ a.type }
 
 mutual
   pub gen_sound : (t : Numbered) (σ : ℕ → EbType) (asked : ℕ) (h : Generated) → Fit σ (gen asked t h).1 → Fit σ h × HasSort (types_below asked σ) t (sort_at σ (gen asked t h).0)
@@ -215,15 +217,11 @@ demand_sound : (σ : ℕ → EbType) (f : Found) (h : Generated) → Fit σ (dem
 demand_sound σ Predicate h s = (s, refl)
 demand_sound σ (Expression k) h s = absurd (fits_contradict σ k h s)
 
--- the equations of formulas that are to be predicates, the last one first
-abbrev pub all_demanded : ℕ → Generated → List Numbered → Generated
-all_demanded asked h [] = h
-all_demanded asked h (t ∷ ts) = demanded asked t (all_demanded asked h ts)
-
-pub all_sound : (σ : ℕ → EbType) (asked : ℕ) (h : Generated) (ts : List Numbered) → Fit σ (all_demanded asked h ts) → ArePredicates (types_below asked σ) ts
-all_sound σ asked h [] s = tt
+pub all_sound : (σ : ℕ → EbType) (asked : ℕ) (h : Generated) (ts : List Numbered) → Fit σ (all_demanded asked h ts) → Fit σ h × ArePredicates (types_below asked σ) ts
+all_sound σ asked h [] s = (s, tt)
 all_sound σ asked h (t ∷ ts) s =
-    let before = all_demanded asked h ts in
-    let a = demand_sound σ (gen asked t before).0 (gen asked t before).1 s in
-    let b = gen_sound t σ asked before a.0 in
-    (subst (λ s. HasSort (types_below asked σ) t s) a.1 b.1, all_sound σ asked h ts b.0)
+    let r = all_sound σ asked (demanded asked t h) ts s in
+    let q = gen asked t h in
+    let a = demand_sound σ q.0 q.1 r.0 in
+    let b = gen_sound t σ asked h a.0 in
+    (b.0, (subst (λ s. HasSort (types_below asked σ) t s) a.1 b.1, r.1))

@@ -1,2 +1,3 @@
 -- Means of proof: no public clause names what stands here.
 pub mod Generating
+pub mod Demanding

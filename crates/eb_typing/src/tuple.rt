@@ -1,7 +1,7 @@
 //! The equations of patterns.
 ghost use Rattle.std.specs.Prelude.{◌≡◌, [], ◌∷◌, IfOk, OnOk, MatchOption, fold};
 ghost use Rattle.eb_typing.specs.steps.Generating as spec;
-ghost use Rattle.eb_typing.specs.Typing.{ungrouped};
+ghost use Rattle.eb_resolved.specs.Patterns.{ungrouped};
 
 use crate::generated::{Found, Generated};
 use eb_syntax::Mark;
@@ -56,7 +56,7 @@ struct Groups {
 
 impl Model for Groups {
     ghost use Rattle.std.specs.Prelude.{ℕ};
-    ghost use Rattle.eb_typing.specs.Typing.{Group};
+    ghost use Rattle.eb_resolved.specs.Patterns.{Group};
 
     ghost Value = { Group ℕ };
 

@@ -24,8 +24,8 @@ use Rattle.eb_term.specs.declared.operators.Binary.TheVariants as binary
 use Rattle.eb_term.specs.declared.operators.Binder.TheVariants as binder
 use Rattle.eb_term.specs.declared.term.Term.{Term}
 use Rattle.eb_term.specs.Terms as term
-use Rattle.eb_meaning.specs.declared.truth3.Truth3.{Truth3}
-use Rattle.eb_meaning.specs.declared.truth3.Truth3.TheVariants.{Undefined}
+use Rattle.eb_operations.specs.declared.truth3.Truth3.{Truth3}
+use Rattle.eb_operations.specs.declared.truth3.Truth3.TheVariants.{Undefined}
 use Rattle.eb_meaning.specs.Truths as truths
 use Rattle.eb_meaning.specs.Truths.{truth_of, tested, for_all, exists}
 use Rattle.eb_meaning.specs.Meaning.{Slot, Env, Meaning, meaning, value_of, truth_in, inside, is_value, over_range, by_prefix, by_call, by_operator, by_unary, test_by, member, subset, proper_subset, is_within, is_value_of}

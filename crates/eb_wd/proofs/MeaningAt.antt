@@ -11,7 +11,7 @@ use Rattle.eb_term.specs.declared.operators.Binder.{Binder}
 use Rattle.eb_term.specs.declared.operators.Binder.TheVariants as binder
 use Rattle.eb_term.specs.declared.term.Term.{Term, the_lemmas}
 use Rattle.eb_term.specs.Terms as term
-use Rattle.eb_meaning.specs.declared.truth3.Truth3.TheVariants.{True, Undefined}
+use Rattle.eb_operations.specs.declared.truth3.Truth3.TheVariants.{True, Undefined}
 use Rattle.eb_meaning.specs.Truths as truths
 use Rattle.eb_meaning.specs.Truths.{truth_of, for_all}
 use Rattle.eb_meaning.specs.Meaning.{Slot, Env, meaning, value_of, truth_in, inside, is_value, by_unary, by_binary, by_many, by_binder, over_range}

@@ -3,8 +3,8 @@ use Rattle.std.proofs.Common.{◌≡◌, ◌∙◌, Bool, true, false, ◌&&◌,
 use Rattle.std.specs.List.{list_all}
 use Rattle.std.specs.Cmp.{first_so, second_so}
 use Rattle.eb_value.specs.declared.value.Value.{Value}
-use Rattle.eb_meaning.specs.declared.truth3.Truth3.{Truth3}
-use Rattle.eb_meaning.specs.declared.truth3.Truth3.TheVariants.{True, False, Undefined}
+use Rattle.eb_operations.specs.declared.truth3.Truth3.{Truth3}
+use Rattle.eb_operations.specs.declared.truth3.Truth3.TheVariants.{True, False, Undefined}
 use Rattle.eb_meaning.specs.Truths.{truth_of, is_defined, tested, negation, conjunction, disjunction, implication, strict, both, for_all, exists}
 use Rattle.eb_meaning.specs.Meaning.{Slot, is_value, where_given, all_values}
 

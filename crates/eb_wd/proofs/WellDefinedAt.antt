@@ -19,6 +19,7 @@ use Rattle.eb_term.specs.declared.term.Head.TheVariants as head
 use Rattle.eb_term.specs.Terms as term
 use Rattle.eb_narrow.specs.Narrow.{operation, conjunction}
 use Rattle.eb_wd.specs.WellDefined.{Conditions}
+use Rattle.operator_kinds.specs.Operators as kind
 use Rattle.eb_wd.specs.WellDefined as wd
 use Rattle.eb_wd.proofs.ConditionsAt.{conditions, kept, all_terms_kept}
 
@@ -75,7 +76,7 @@ either_true : (b : Bool) (t : Term) (values : List Term) → term.truth true ≡
 either_true true t values = refl
 either_true false t values = refl
 
-other_wd : (o : Operator) (k l : Conditions) → IsNoConnective o → (if wd.is_membership o then wd.all_defined (k.term ∷ l.values) else (if wd.is_comparison o then wd.all_defined (k.term ∷ l.term ∷ []) else term.truth true)) ≡ (wd.by_operator o k l).wd
+other_wd : (o : Operator) (k l : Conditions) → IsNoConnective o → (if kind.is_membership o then wd.all_defined (k.term ∷ l.values) else (if wd.is_comparison o then wd.all_defined (k.term ∷ l.term ∷ []) else term.truth true)) ≡ (wd.by_operator o k l).wd
 other_wd op.Implies k l n = absurd (n.no_implies refl)
 other_wd op.Equivalent k l n = absurd (n.no_equivalent refl)
 other_wd op.Or k l n = absurd (n.no_or refl)
@@ -84,9 +85,9 @@ other_wd op.Product k l n = either_true (k.is_form || l.is_form) (operation op.P
 other_wd _ k l n = refl
 
 pub relation : (t a b : Term) (x : Binary) (o : Operator) → t.head ≡ head.Binary x a b → x ≡ binary.Operator o → IsNoConnective o
-    → (if wd.is_membership o then wd.all_defined (a ∷ (conditions b).values) else (if wd.is_comparison o then wd.all_defined (a ∷ b ∷ []) else term.truth true)) ≡ (conditions t).wd
+    → (if kind.is_membership o then wd.all_defined (a ∷ (conditions b).values) else (if wd.is_comparison o then wd.all_defined (a ∷ b ∷ []) else term.truth true)) ≡ (conditions t).wd
 relation t a b x o p q n =
-    sym (ap₂ (λ y z. if wd.is_membership o then wd.all_defined (y ∷ (conditions b).values) else (if wd.is_comparison o then wd.all_defined (y ∷ z ∷ []) else term.truth true)) (kept a) (kept b))
+    sym (ap₂ (λ y z. if kind.is_membership o then wd.all_defined (y ∷ (conditions b).values) else (if wd.is_comparison o then wd.all_defined (y ∷ z ∷ []) else term.truth true)) (kept a) (kept b))
     ∙ other_wd o (conditions a) (conditions b) n ∙ ap (λ k. k.wd) (sym (at-operator t a b x o p q))
 
 -- ---- from equal parts
@@ -101,9 +102,9 @@ pub over_range : (s body one other x : Term) → one ≡ s → other ≡ body �
 over_range s body one other x e g p = ap₂ (λ y z. conjunction (wd.is_defined y) (term.over binder.ForAll y z)) e (p ∙ ap (λ z. (conditions z).wd) g)
 
 pub relation_of : (o : Operator) (a b one other : Term) → one ≡ a → other ≡ b
-    → (if wd.is_membership o then wd.all_defined (one ∷ (conditions other).values) else (if wd.is_comparison o then wd.all_defined (one ∷ other ∷ []) else term.truth true))
-    ≡ (if wd.is_membership o then wd.all_defined (a ∷ (conditions b).values) else (if wd.is_comparison o then wd.all_defined (a ∷ b ∷ []) else term.truth true))
-relation_of o a b one other e g = ap₂ (λ y z. if wd.is_membership o then wd.all_defined (y ∷ (conditions z).values) else (if wd.is_comparison o then wd.all_defined (y ∷ z ∷ []) else term.truth true)) e g
+    → (if kind.is_membership o then wd.all_defined (one ∷ (conditions other).values) else (if wd.is_comparison o then wd.all_defined (one ∷ other ∷ []) else term.truth true))
+    ≡ (if kind.is_membership o then wd.all_defined (a ∷ (conditions b).values) else (if wd.is_comparison o then wd.all_defined (a ∷ b ∷ []) else term.truth true))
+relation_of o a b one other e g = ap₂ (λ y z. if kind.is_membership o then wd.all_defined (y ∷ (conditions z).values) else (if wd.is_comparison o then wd.all_defined (y ∷ z ∷ []) else term.truth true)) e g
 
 -- ---- value parts
 

@@ -1,9 +1,6 @@
 -- What says that a predicate isn't Undefined (Abrial, "Modeling in Event-B", 2010, chapter 9; Métayer and Voisin, 2009).
 use Rattle.std.specs.Prelude.{Bool, true, false, List, [], ◌∷◌, ◌++◌, map, if◌then◌else◌, ◌&&◌, ◌||◌}
-use Rattle.std.specs.List.{flat_map}
-use Rattle.eb_syntax.specs.declared.ast.Prefix.{Prefix}
 use Rattle.eb_syntax.specs.declared.ast.Prefix.TheVariants as prefix
-use Rattle.eb_syntax.specs.declared.ast.Call.{Call}
 use Rattle.eb_syntax.specs.declared.ast.Call.TheVariants as call
 use Rattle.eb_syntax.specs.declared.ast.Operator.{Operator}
 use Rattle.eb_syntax.specs.declared.ast.Operator.TheVariants as op
@@ -21,7 +18,7 @@ use Rattle.eb_term.specs.declared.term.Head.{Head-F}
 use Rattle.eb_term.specs.declared.term.Head.TheOpen as head
 use Rattle.eb_term.specs.Terms as term
 use Rattle.eb_term.specs.Terms.{by_parts}
-use Rattle.eb_meaning.specs.Meaning.{is_product, is_arrow}
+use Rattle.operator_kinds.specs.Operators.{is_membership, is_product, is_arrow}
 use Rattle.eb_narrow.specs.Narrow.{operation, conjunction}
 
 -- A term; of a predicate, what says that it isn't Undefined; of what stands to the right of a membership, its value parts; and
@@ -72,17 +69,7 @@ by_unary unary.Defined e = predicate (term.unary unary.Defined e.term) (term.tru
 by_unary unary.Functional e = predicate (term.unary unary.Functional e.term) (is_defined e.term)
 by_unary o e = expression (term.unary o e.term)
 
--- the relations whose right side may be a form
-abbrev pub is_membership : Operator → Bool
-is_membership op.MemberOf = true
-is_membership op.NotMemberOf = true
-is_membership op.SubsetOf = true
-is_membership op.NotSubsetOf = true
-is_membership op.ProperSubsetOf = true
-is_membership op.NotProperSubsetOf = true
-is_membership _ = false
-
--- the others
+-- the relations but those of membership
 abbrev pub is_comparison : Operator → Bool
 is_comparison op.Equal = true
 is_comparison op.Unequal = true

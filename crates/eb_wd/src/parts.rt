@@ -4,7 +4,7 @@ ghost use Rattle.std.specs.Prelude.{◌≡◌, IfOk, Bool, true, false, ◌&&◌
 ghost use Rattle.eb_term.specs.declared.term.Term.{Term};
 ghost use Rattle.eb_term.specs.Terms as term;
 ghost use Rattle.eb_term.specs.Terms.{by_parts};
-ghost use Rattle.eb_meaning.specs.Meaning.{is_product, is_arrow};
+ghost use Rattle.operator_kinds.specs.Operators as kind;
 ghost use Rattle.eb_narrow.specs.Narrow as narrow;
 ghost use Rattle.eb_wd.specs.WellDefined as spec;
 ghost use Rattle.eb_wd.specs.WellDefined.{Conditions, wd_step};
@@ -12,6 +12,7 @@ ghost use Rattle.eb_wd.specs.WellDefined.{Conditions, wd_step};
 use eb_narrow::copied;
 use eb_syntax::{Call, Operator, Prefix};
 use eb_term::{Binary, Binder, Head, Many, Term, Unary};
+use operator_kinds::{is_arrow, is_membership, is_product};
 use std::alloc::{AllocError, Global};
 
 /// The operator between two terms.
@@ -73,21 +74,6 @@ fn and_each(alloc: Global, first: Term, terms: &[Term]) -> Result<Term, AllocErr
     Ok(all)
 }
 
-/// Whether the relation's right side may be a form.
-fn is_membership(operator: Operator) -> bool
-    ensures { result ≡ spec.is_membership operator }
-{
-    matches!(
-        operator,
-        Operator::MemberOf
-            | Operator::NotMemberOf
-            | Operator::SubsetOf
-            | Operator::NotSubsetOf
-            | Operator::ProperSubsetOf
-            | Operator::NotProperSubsetOf
-    )
-}
-
 /// Whether the operator is another relation.
 fn is_comparison(operator: Operator) -> bool
     ensures { result ≡ spec.is_comparison operator }
@@ -110,7 +96,7 @@ pub(crate) fn relation(
     left: &Term,
     right: &Term,
 ) -> Result<Term, AllocError>
-    ensures { IfOk result (λ t. t ≡ (if spec.is_membership operator then spec.all_defined (left.now ∷ (by_parts Conditions wd_step right.now).values)
+    ensures { IfOk result (λ t. t ≡ (if kind.is_membership operator then spec.all_defined (left.now ∷ (by_parts Conditions wd_step right.now).values)
         else (if spec.is_comparison operator then spec.all_defined (left.now ∷ right.now ∷ []) else term.truth true))) }
 {
     if is_membership(operator) {
@@ -122,33 +108,6 @@ pub(crate) fn relation(
     } else {
         Ok(Term::truth(true))
     }
-}
-
-/// Whether the operator makes a set of relations.
-fn is_arrow(operator: Operator) -> bool
-    ensures { result ≡ is_arrow operator }
-{
-    matches!(
-        operator,
-        Operator::Relation
-            | Operator::TotalRelation
-            | Operator::SurjectiveRelation
-            | Operator::TotalSurjectiveRelation
-            | Operator::PartialFunction
-            | Operator::TotalFunction
-            | Operator::PartialInjection
-            | Operator::TotalInjection
-            | Operator::PartialSurjection
-            | Operator::TotalSurjection
-            | Operator::Bijection
-    )
-}
-
-/// Whether the operator makes the product of two sets.
-fn is_product(operator: Operator) -> bool
-    ensures { result ≡ is_product operator }
-{
-    matches!(operator, Operator::Product)
 }
 
 /// Where the value parts of a term stand.
@@ -197,7 +156,7 @@ fn is_form(term: &Term) -> bool
 
 /// Whether the operator is the product of two sets of which one is a form.
 fn is_product_form(operator: Operator, left: &Term, right: &Term) -> bool
-    ensures { result ≡ (is_product operator && ((by_parts Conditions wd_step left.now).is_form || (by_parts Conditions wd_step right.now).is_form)) }
+    ensures { result ≡ (kind.is_product operator && ((by_parts Conditions wd_step left.now).is_form || (by_parts Conditions wd_step right.now).is_form)) }
 {
     is_product(operator) && (is_form(left) || is_form(right))
 }
@@ -242,11 +201,11 @@ fn of_one(operator: Unary) -> ValueParts
 
 /// Where the value parts are of an operator with two parts, by whether it is the product of two sets of which one is a form.
 fn of_two(operator: Operator, form: bool) -> ValueParts
-    ensures nowhere { result ≡ ValueParts.Nowhere → (k l : Conditions) → (is_product operator && (k.is_form || l.is_form)) ≡ form
+    ensures nowhere { result ≡ ValueParts.Nowhere → (k l : Conditions) → (kind.is_product operator && (k.is_form || l.is_form)) ≡ form
         → (spec.by_operator operator k l).values ≡ [] }
-    ensures itself { result ≡ ValueParts.Itself → (k l : Conditions) → (is_product operator && (k.is_form || l.is_form)) ≡ form
+    ensures itself { result ≡ ValueParts.Itself → (k l : Conditions) → (kind.is_product operator && (k.is_form || l.is_form)) ≡ form
         → (spec.by_operator operator k l).values ≡ (spec.by_operator operator k l).term ∷ [] }
-    ensures in_parts { result ≡ ValueParts.InParts → (k l : Conditions) → (is_product operator && (k.is_form || l.is_form)) ≡ form
+    ensures in_parts { result ≡ ValueParts.InParts → (k l : Conditions) → (kind.is_product operator && (k.is_form || l.is_form)) ≡ form
         → (spec.by_operator operator k l).values ≡ k.values ++ l.values }
 {
     match operator {

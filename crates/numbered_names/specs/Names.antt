@@ -2,9 +2,11 @@
 --
 -- Identifiers where they are declared or bound and marks are numbered together, in the order in which they stand in the text;
 -- an identifier that `{E|P}` binds stands where E uses it first.
-use Rattle.std.specs.Prelude.{ℕ, ◌+◌, if◌then◌else◌, List, [], ◌∷◌, ◌++◌, take, Option, Some, None, fold, unwrap_or}
+use Rattle.std.specs.Prelude.{ℕ, ◌+◌, Bool, true, false, if◌then◌else◌, List, [], ◌∷◌, ◌++◌, take, Option, Some, None, fold, unwrap_or}
 use Rattle.std.specs.Option.{option_or}
 use Rattle.std.specs.Str.{bytes_eq}
+use Rattle.eb_syntax.specs.declared.ast.Constant.{Constant}
+use Rattle.eb_syntax.specs.declared.ast.Constant.TheVariants as constant
 use Rattle.eb_syntax.specs.declared.ast.Bound.{Bound}
 use Rattle.eb_syntax.specs.declared.ast.Bound.TheVariants as bound
 use Rattle.eb_syntax.specs.declared.ast.Mark.{Mark}
@@ -114,3 +116,18 @@ leave before s = record { bound = before.bound ++ entries s.built; built = befor
 pub record Scope : Type 0 where
   pub entries : List Entry
   pub asked : ℕ
+
+-- the constants that have a type of their own at each place: a mark
+abbrev pub is_mark : Constant → Bool
+is_mark constant.Truth = false
+is_mark constant.Falsity = false
+is_mark constant.Integers = false
+is_mark constant.Naturals = false
+is_mark constant.PositiveNaturals = false
+is_mark constant.Booleans = false
+is_mark constant.TrueValue = false
+is_mark constant.FalseValue = false
+is_mark constant.Identity = true
+is_mark constant.FirstProjection = true
+is_mark constant.SecondProjection = true
+is_mark constant.EmptySet = true

@@ -6,6 +6,7 @@ ghost use Rattle.numbered_names.specs.Names as spec;
 ghost use Rattle.numbered_names.specs.steps.Layers.{entries_of};
 
 use eb_names::Name;
+use sqlite_items::Items;
 use std::alloc::{AllocError, Global};
 use std::collections::BTreeMap;
 use std::marker::Model;
@@ -70,6 +71,17 @@ fn restore(newest: &mut BTreeMap<String, u32>, name: &str, hidden: Option<u32>)
             newest.remove(name);
         }
     }
+}
+
+/// A copy of the entries of these layers.
+fn entries_in(alloc: Global, layers: &[Layer]) -> Result<Items<Entry>, AllocError>
+    ensures { IfOk result (λ entries. entries ≡ entries_of layers.now) }
+{
+    let mut entries = Items::new(alloc);
+    for layer in layers {
+        entries.push(Entry::new(alloc, &layer.entry.name, layer.entry.number)?)?;
+    }
+    Ok(entries)
 }
 
 impl Entries {
@@ -137,6 +149,13 @@ impl Entries {
         ensures { self.now ≡ entries_of result.now }
     {
         &self.layers
+    }
+
+    /// A copy of the entries. The only error is want of memory.
+    pub(crate) fn entries(&self, alloc: Global) -> Result<Items<Entry>, AllocError>
+        ensures { IfOk result (λ entries. entries ≡ self.now) }
+    {
+        entries_in(alloc, self.layers())
     }
 
     /// The entries of these layers behind those that are there.

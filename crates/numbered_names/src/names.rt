@@ -2,9 +2,10 @@
 ghost use Rattle.std.specs.Prelude.{◌≡◌, ◌+◌, IfOk, OnOk, length};
 ghost use Rattle.numbered_names.specs.Names as spec;
 
-use crate::entries::Entries;
+use crate::entries::{Entries, Entry};
 use eb_names::Name;
 use eb_syntax::{Bound, Identifier, Mark};
+use sqlite_items::Items;
 use std::alloc::{AllocError, Global};
 use std::marker::Model;
 
@@ -140,6 +141,16 @@ impl Names {
         match built {
             Some(built) => self.bound.append(alloc, built.layers()),
             None => Ok(()),
+        }
+    }
+
+    /// What the E of a `{E|P}` has bound so far: nothing outside of one. The only error is want of memory.
+    pub fn built(&self, alloc: Global) -> Result<Items<Entry>, AllocError>
+        ensures { IfOk result (λ entries. entries ≡ spec.entries self.now.built) }
+    {
+        match &self.built {
+            Some(built) => built.entries(alloc),
+            None => Ok(Items::new(alloc)),
         }
     }
 

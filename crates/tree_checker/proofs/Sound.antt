@@ -8,8 +8,8 @@ use Rattle.eb_value.specs.Values.{int}
 use Rattle.eb_term.specs.declared.problem.Choice.{Choice}
 use Rattle.eb_term.specs.declared.problem.Problem.{Problem}
 use Rattle.eb_term.specs.declared.term.Term.{Term}
-use Rattle.eb_meaning.specs.declared.truth3.Truth3.{Truth3}
-use Rattle.eb_meaning.specs.declared.truth3.Truth3.TheVariants.{True}
+use Rattle.eb_operations.specs.declared.truth3.Truth3.{Truth3}
+use Rattle.eb_operations.specs.declared.truth3.Truth3.TheVariants.{True}
 use Rattle.eb_meaning.specs.Truths.{is_true}
 use Rattle.eb_meaning.specs.Problems.{IsValuation, IsSolution, IsTrueOf, slots_of, fact_at}
 use Rattle.int_dom.specs.declared.interval.Interval.{Interval}

@@ -68,21 +68,6 @@ binary left right whole = record { left = left; right = right; whole = whole }
 abbrev pub ternary : Pattern → Pattern → Pattern → Pattern → TernaryRow
 ternary first second third whole = record { first = first; second = second; third = third; whole = whole }
 
--- the constants that have a type of their own at each place: a mark
-abbrev pub is_mark : Constant → Bool
-is_mark constant.Truth = false
-is_mark constant.Falsity = false
-is_mark constant.Integers = false
-is_mark constant.Naturals = false
-is_mark constant.PositiveNaturals = false
-is_mark constant.Booleans = false
-is_mark constant.TrueValue = false
-is_mark constant.FalseValue = false
-is_mark constant.Identity = true
-is_mark constant.FirstProjection = true
-is_mark constant.SecondProjection = true
-is_mark constant.EmptySet = true
-
 -- what a constant is
 abbrev pub constant_pattern : Constant → Pattern
 constant_pattern constant.Truth = p.Predicate

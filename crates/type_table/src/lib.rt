@@ -8,6 +8,6 @@ mod rows;
 pub use pattern::{BinaryRow, Letter, Pattern, TernaryRow, UnaryRow};
 pub use rows::{
     assignment_at_row, assignment_row, builder_row, call_row, carrier_row, choice_row,
-    comprehension_row, constant_pattern, gathering_row, inverse_row, is_mark, lambda_row,
-    operator_row, prefix_row, quantifier_row,
+    comprehension_row, constant_pattern, gathering_row, inverse_row, lambda_row, operator_row,
+    prefix_row, quantifier_row,
 };

@@ -18,26 +18,6 @@ fn binary(left: Pattern, right: Pattern, whole: Pattern) -> BinaryRow
     BinaryRow { left, right, whole }
 }
 
-/// Whether each place of the constant has a type of its own.
-pub fn is_mark(constant: Constant) -> bool
-    ensures { result ≡ spec.is_mark constant }
-{
-    match constant {
-        Constant::Identity
-        | Constant::FirstProjection
-        | Constant::SecondProjection
-        | Constant::EmptySet => true,
-        Constant::Truth
-        | Constant::Falsity
-        | Constant::Integers
-        | Constant::Naturals
-        | Constant::PositiveNaturals
-        | Constant::Booleans
-        | Constant::TrueValue
-        | Constant::FalseValue => false,
-    }
-}
-
 /// What a constant is: a predicate, or an expression of a type.
 pub fn constant_pattern(constant: Constant) -> Pattern
     ensures { result ≡ spec.constant_pattern constant }

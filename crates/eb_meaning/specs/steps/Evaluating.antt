@@ -1,21 +1,21 @@
 -- The meaning in the steps of the evaluator.
-use Rattle.std.specs.Prelude.{◌≡◌, Bool, true, false, not, ◌&&◌, [], ◌∷◌, option_and_then, if◌then◌else◌, List, map, Option, Some, None, option_map}
+use Rattle.std.specs.Prelude.{◌≡◌, Bool, not, ◌&&◌, [], ◌∷◌, option_and_then, if◌then◌else◌, List, Option, Some, None, option_map}
 use Rattle.std.specs.List.{list_all}
 use Rattle.eb_value.specs.declared.value.Value.{Value}
 use Rattle.eb_value.specs.Comprehensions as sets
 use Rattle.eb_value.specs.Comprehensions.{members}
 use Rattle.eb_syntax.specs.declared.ast.Operator.{Operator}
 use Rattle.eb_term.specs.declared.term.Term.{Term}
-use Rattle.eb_term.specs.declared.term.Head.{Head-F}
 use Rattle.eb_term.specs.declared.term.Head.TheOpen as head
 use Rattle.eb_term.specs.Terms.{Layer, layer}
 use Rattle.eb_syntax.specs.declared.ast.Operator.TheVariants as op
 use Rattle.eb_term.specs.declared.operators.Side.{Side}
-use Rattle.eb_term.specs.declared.operators.Side.TheVariants as side
-use Rattle.eb_meaning.specs.declared.truth3.Truth3.{Truth3}
-use Rattle.eb_meaning.specs.declared.truth3.Truth3.TheVariants.{Undefined}
-use Rattle.eb_meaning.specs.Truths.{truth_of, tested, negation, conjunction, disjunction, implication, equivalence}
-use Rattle.eb_meaning.specs.Meaning.{Slot, Env, Meaning, slot_at, variable_at, test_by, is_set, is_nonempty_set, is_within, is_value_of, is_relation, if_asked, is_function, is_injection, is_total, is_surjective, is_value, has_value, covers}
+use Rattle.eb_operations.specs.declared.truth3.Truth3.{Truth3}
+use Rattle.eb_operations.specs.declared.truth3.Truth3.TheVariants.{Undefined}
+use Rattle.eb_operations.specs.Truths.{truth_of, tested, negation}
+use Rattle.eb_operations.specs.Operations.{set_of_side}
+use Rattle.eb_operations.specs.Tests.{is_power, is_whole}
+use Rattle.eb_meaning.specs.Meaning.{Slot, Env, Meaning, slot_at, variable_at, test_by, is_within, is_value_of, is_value, has_value, covers}
 
 -- whether what stands to the right of a membership has each of the values, where it is given
 abbrev pub has_all : Meaning → Env → List Value → Option Bool
@@ -35,10 +35,6 @@ leaf_in env _ = None
 abbrev pub leaf_value : Env → Term → Slot
 leaf_value env t = leaf_in env (layer t)
 
-abbrev pub is_power : Bool → Value → Bool
-is_power false v = is_set v
-is_power true v = is_nonempty_set v
-
 -- POW(F), and POW1(F) where the empty set is no member
 abbrev pub powers_have_all : Bool → Meaning → Env → List Value → Option Bool
 powers_have_all without_empty F env vs = if F.is_given env then Some (list_all (λ v. is_power without_empty v && is_within env F v) vs) else None
@@ -48,22 +44,6 @@ abbrev pub both_given : Option Bool → Option Bool → Bool → Option Bool
 both_given None q test = None
 both_given (Some p) None test = None
 both_given (Some p) (Some q) test = Some (test && (p && q))
-
--- a relation, and functional as the arrow asks
-abbrev pub is_arrow_in : Operator → Value → Bool
-is_arrow_in arrow v = is_relation v && if_asked (is_function arrow) (sets.is_functional (members v)) && if_asked (is_injection arrow) (sets.is_functional (sets.inverse (members v)))
-
--- the domain, or the range
-abbrev pub set_of_side : Side → Value → List Value
-set_of_side side.First v = sets.domain (members v)
-set_of_side side.Second v = sets.range (members v)
-
-abbrev pub connective : Operator → Truth3 → Truth3 → Truth3
-connective op.And p q = conjunction p q
-connective op.Or p q = disjunction p q
-connective op.Implies p q = implication p q
-connective op.Equivalent p q = equivalence p q
-connective _ p q = Undefined
 
 -- e <<: F, by the value of e
 abbrev pub proper_subset : Env → Value → Meaning → Truth3
@@ -78,11 +58,6 @@ relation op.NotSubsetOf env v F = negation (tested (has_all F env (members v)))
 relation op.ProperSubsetOf env v F = proper_subset env v F
 relation op.NotProperSubsetOf env v F = negation (proper_subset env v F)
 relation o env v F = tested (option_and_then (test_by o v) (F.value env))
-
--- all of a side is asked
-abbrev pub is_whole : Side → Operator → Bool
-is_whole side.First arrow = is_total arrow
-is_whole side.Second arrow = is_surjective arrow
 
 -- an expression has the members of its value, and what is neither expression nor form has none
 pub record IsPlain (m : Meaning) : Type 0 where

@@ -1,5 +1,5 @@
 -- Narrow form in the steps of the code.
-use Rattle.std.specs.Prelude.{ℕ, ◌+◌, nat_lt, Bool, true, false, if◌then◌else◌, List, [], ◌∷◌, ◌++◌, map, Option, Some, None}
+use Rattle.std.specs.Prelude.{ℕ, ◌+◌, nat_lt, Bool, true, false, ◌||◌, if◌then◌else◌, List, [], ◌∷◌, ◌++◌, map, Option, Some, None}
 use Rattle.eb_syntax.specs.declared.ast.Operator.{Operator}
 use Rattle.eb_syntax.specs.declared.ast.Operator.TheVariants as op
 use Rattle.eb_value.specs.declared.types.EbType.{EbType}
@@ -8,23 +8,19 @@ use Rattle.eb_term.specs.declared.operators.Binder.TheVariants as binder
 use Rattle.eb_term.specs.declared.term.Term.{Term}
 use Rattle.eb_term.specs.declared.operators.Side.{Side}
 use Rattle.eb_term.specs.declared.operators.Side.TheVariants as side
+use Rattle.eb_term.specs.declared.operators.Infinite.TheVariants as infinite
+use Rattle.eb_term.specs.declared.term.Head.TheOpen as head
 use Rattle.eb_term.specs.Terms as term
+use Rattle.eb_term.specs.Terms.{Layer, layer}
 use Rattle.eb_meaning.specs.Meaning.{is_total, is_surjective}
+use Rattle.eb_narrow.specs.declared.kinds.UnaryKind.{UnaryKind}
+use Rattle.eb_narrow.specs.declared.kinds.UnaryKind.TheVariants as kind
 use Rattle.eb_narrow.specs.Shifting.{shift}
-use Rattle.eb_narrow.specs.Narrow.{Narrowed, narrowed, operation, negation, both, equal, at_most, is_defined, infinite_set, predicate, by_relation, domain, range, whole}
+use Rattle.eb_narrow.specs.Narrow.{Narrowed, narrowed, operation, negation, both, equal, at_most, is_defined, infinite_set, predicate, by_relation, domain, range, whole, proper_subset}
 
 -- the number of a binder of a term that is put under more
 abbrev pub number_under : ℕ → ℕ → ℕ → ℕ
 number_under k from by = if nat_lt k from then k else k + by
-
--- a relation or an operation whose sides are narrow; no membership
-abbrev pub compared : Operator → Term → Term → Term
-compared op.Unequal a b = negation (equal a b)
-compared op.Less a b = negation (at_most b a)
-compared op.Greater a b = negation (at_most a b)
-compared op.AtLeast a b = at_most b a
-compared op.BackwardComposition a b = operation op.ForwardComposition b a
-compared o a b = operation o a b
 
 -- what has been joined, and one more
 abbrev pub joined : Option Term → Term → Term
@@ -40,10 +36,6 @@ joined_on p (q ∷ qs) = joined_on (Some (joined p q)) qs
 abbrev pub defined_values : Narrowed → ℕ → ℕ → List Term
 defined_values f d x = map (λ v. is_defined (shift d x v)) (f.values d)
 
--- a term whose left side is narrow already
-abbrev pub related : Operator → Term → Narrowed → ℕ → Term
-related o e f d = (by_relation o None (predicate (λ k. e)) f).term d
-
 -- what stands for a binder in narrow form
 abbrev pub narrow_binder : Binder → Binder
 narrow_binder binder.ForAll = binder.Exists
@@ -56,15 +48,6 @@ turned binder.ForAll p = negation p
 turned binder.Exists p = p
 turned binder.Collect p = p
 
-abbrev pub is_up_to : Operator → Bool
-is_up_to op.UpTo = true
-is_up_to _ = false
-
--- all of a side is asked
-abbrev pub is_whole : Side → Operator → Bool
-is_whole side.First arrow = is_total arrow
-is_whole side.Second arrow = is_surjective arrow
-
 abbrev pub side_of : Side → Term → Term
 side_of side.First e = domain e
 side_of side.Second e = range e
@@ -72,3 +55,17 @@ side_of side.Second e = range e
 -- no member of e is missing
 abbrev pub has_no_other : EbType → Narrowed → ℕ → ℕ → Term → Term
 has_no_other t f d x e = negation (term.over binder.Exists e (negation (f.has d (x + 1) (whole (d + x) t))))
+
+abbrev pub is_integers_at : Layer → Bool
+is_integers_at (head.Infinite infinite.Integers) = true
+is_integers_at _ = false
+
+-- INT
+abbrev pub is_integers : Term → Bool
+is_integers t = is_integers_at (layer t)
+
+abbrev pub is_power_set : UnaryKind → Bool
+is_power_set kind.PowerSet = true
+is_power_set kind.NonemptyPowerSet = true
+is_power_set kind.UnionOfMembers = false
+is_power_set kind.Other = false

@@ -13,7 +13,7 @@ use Rattle.eb_typing.specs.declared.generated.Found.TheVariants.{Predicate, Expr
 use Rattle.eb_typing.specs.declared.generated.Letters.{Letters}
 use Rattle.eb_typing.specs.declared.generated.Generated.{Generated}
 use Rattle.eb_typing.specs.Numbering.{Numbered, typed, unknown, tuple, made, Parts, none, also}
-use Rattle.eb_typing.specs.Typing.{Group, ungrouped}
+use Rattle.eb_resolved.specs.Patterns.{Group, ungrouped}
 
 abbrev pub letter : Letters → Letter → ℕ
 letter l A = l.a

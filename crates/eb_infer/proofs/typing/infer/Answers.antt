@@ -7,17 +7,17 @@ pub returns-in-Ok-clause-typed : goal.returns-in-Ok-clause-typed
 returns-in-Ok-clause-typed c =
     let p = c.in_ok-problem.problem in
     let s : IsOnlySolution p.asked p.equations c.in-Ok.typing = search rules in
-    only_typing c.args.units.now p.asked p.equations c.in-Ok.typing c.in_ok-problem.ensures.equated s
+    only_typing c.args.model.now p.asked p.equations c.in-Ok.typing c.in_ok-problem.ensures.equated s
 
 pub returns-in-Err-Clash-clause-cause : goal.returns-in-Err-Clash-clause-cause
 returns-in-Err-Clash-clause-cause c =
     let p = c.in_ok-problem.problem in
     let o = rw c.in-Err-Clash.field-0-is at c.in-Err-Clash.ensures.solution in
     let s : HaveNone p.equations = subst HaveNone c.as_slice-equations.ensures o in
-    no_typing c.args.units.now p.asked p.equations c.in_ok-problem.ensures.equated s
+    no_typing c.args.model.now p.asked p.equations c.in_ok-problem.ensures.equated s
 
 pub returns-in-Err-Open-clause-cause : goal.returns-in-Err-Open-clause-cause
 returns-in-Err-Open-clause-cause c =
     let p = c.in_ok-problem.problem in
     let s : HaveSeveral p.asked p.equations = search rules in
-    several_typings c.args.units.now p.asked p.equations c.in_ok-problem.ensures.equated s
+    several_typings c.args.model.now p.asked p.equations c.in_ok-problem.ensures.equated s

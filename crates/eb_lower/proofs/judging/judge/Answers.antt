@@ -1,8 +1,4 @@
-use Rattle.std.proofs.Common.{◌≡◌, ◌∙◌, [], map, ap, subst}
-use Rattle.eb_declared.specs.Parts as spec
-use Rattle.eb_declared.specs.Declarations.{declarations, AreDistinct}
-use Rattle.eb_declared.specs.Seen as held
-use Rattle.eb_lower.proofs.AnswerLaws.{declared_answer, known_answer}
+use Rattle.std.proofs.Common.{[]}
 use Rattle.eb_lower.proofs.UnitLaws.{marks_length}
 use Rattle.eb_lower.proofs.judging.judge.Goals as goal
 

@@ -1,11 +1,10 @@
-use Rattle.std.proofs.Common.{rules, Some, map, ◌≡◌, ◌∙◌, sym, subst, true, false, arith, [], ap}
+use Rattle.std.proofs.Common.{rules, Some, map, ◌≡◌, ◌∙◌, sym, true, false, [], ap}
 use Rattle.std.proofs.lemmas.List.{drop_more}
 use Rattle.eb_value.specs.Canonical as canonical
 use Rattle.eb_value.specs.Canonical.{AreCanonical}
 use Rattle.eb_meaning.specs.Meaning as spec
 use Rattle.eb_meaning.specs.steps.Evaluating as step
-use Rattle.eb_meaning.proofs.CanonicalMaps.{joined}
-use Rattle.eb_meaning.proofs.CanonicalSlots.{item_is_canonical}
+use Rattle.eb_meaning.proofs.CanonicalSlots.{item_is_canonical, joined}
 use Rattle.eb_meaning.proofs.Forms.{product_has_all, arrow_has_all}
 use Rattle.eb_meaning.proofs.Heads.{operator_is, over_is, all_is}
 use Rattle.eb_meaning.proofs.Instances.{none_yet, next_one}

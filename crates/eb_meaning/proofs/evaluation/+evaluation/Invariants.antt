@@ -1,9 +1,10 @@
 use Rattle.std.proofs.Common.{◌≡◌, ◌++◌, ◌&&◌, map, drop, option_map}
 use Rattle.std.specs.List.{list_all}
 use Rattle.eb_value.specs.Canonical.{AreCanonical}
+use Rattle.eb_operations.specs.Operations as operations
+use Rattle.eb_operations.specs.Tests as tests
 use Rattle.eb_meaning.specs.Meaning as spec
 use Rattle.eb_meaning.specs.Truths as truths
-use Rattle.eb_meaning.specs.steps.Evaluating as step
 use Rattle.eb_meaning.proofs.evaluation.+evaluation.Given as goal
 
 abbrev pub invariant-for_all_at-loop-value : goal.invariant-for_all_at-loop-value
@@ -25,9 +26,9 @@ invariant-values_at-loop-part l = (spec.all_values (map (λ m. m.value l.at) (ma
     × AreCanonical l.values.items
 
 abbrev pub invariant-side_covered-loop-relation : goal.invariant-side_covered-loop-relation
-invariant-side_covered-loop-relation l = list_all (λ v. spec.covers (step.is_whole l.side l.arrow) l.at (spec.meaning l.scope l.form) (step.set_of_side l.side v)) l.range
-    ≡ list_all (λ v. spec.covers (step.is_whole l.side l.arrow) l.at (spec.meaning l.scope l.form) (step.set_of_side l.side v)) (drop l.relation-index l.range)
+invariant-side_covered-loop-relation l = list_all (λ v. spec.covers (tests.is_whole l.side l.arrow) l.at (spec.meaning l.scope l.form) (operations.set_of_side l.side v)) l.range
+    ≡ list_all (λ v. spec.covers (tests.is_whole l.side l.arrow) l.at (spec.meaning l.scope l.form) (operations.set_of_side l.side v)) (drop l.relation-index l.range)
 
 abbrev pub invariant-powers_at-loop-value : goal.invariant-powers_at-loop-value
-invariant-powers_at-loop-value l = list_all (λ v. step.is_power l.without_empty v && spec.is_within l.at (spec.meaning l.scope l.part) v) l.range
-    ≡ list_all (λ v. step.is_power l.without_empty v && spec.is_within l.at (spec.meaning l.scope l.part) v) (drop l.value-index l.range)
+invariant-powers_at-loop-value l = list_all (λ v. tests.is_power l.without_empty v && spec.is_within l.at (spec.meaning l.scope l.part) v) l.range
+    ≡ list_all (λ v. tests.is_power l.without_empty v && spec.is_within l.at (spec.meaning l.scope l.part) v) (drop l.value-index l.range)

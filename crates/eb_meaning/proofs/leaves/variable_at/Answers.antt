@@ -1,4 +1,4 @@
-use Rattle.std.proofs.Common.{◌≡◌, Some, slice_get, sym, refl}
+use Rattle.std.proofs.Common.{sym, refl}
 use Rattle.std.proofs.lemmas.Option.{slice_get_past}
 use Rattle.eb_meaning.proofs.CanonicalSlots.{looked_up, looked_up_is_canonical}
 use Rattle.eb_meaning.proofs.leaves.variable_at.Goals as goal

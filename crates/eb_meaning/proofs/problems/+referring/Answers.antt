@@ -1,4 +1,4 @@
-use Rattle.std.proofs.Common.{rules, ◌≡◌, ◌∙◌, sym}
+use Rattle.std.proofs.Common.{rules, ◌∙◌, sym}
 use Rattle.eb_meaning.proofs.Referring.{many_refer, over_refer}
 use Rattle.eb_meaning.proofs.problems.+referring.Goals as goal
 

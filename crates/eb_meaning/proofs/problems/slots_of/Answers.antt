@@ -1,4 +1,4 @@
-use Rattle.std.proofs.Common.{rules, ◌≡◌, ◌∙◌, ap, refl, sym}
+use Rattle.std.proofs.Common.{◌∙◌, ap, refl, sym}
 use Rattle.std.proofs.lemmas.List.{drop_more}
 use Rattle.eb_value.specs.Canonical as canonical
 use Rattle.eb_meaning.specs.Problems as spec

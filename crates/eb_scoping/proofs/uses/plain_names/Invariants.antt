@@ -1,5 +1,6 @@
 use Rattle.std.proofs.Common.{◌≡◌, map, take}
-use Rattle.eb_scoping.specs.FreeNames.{plain_names, seen}
+use Rattle.eb_scoping.specs.FreeNames.{seen}
+use Rattle.eb_scoping.specs.steps.FreeByParts.{plain_names}
 use Rattle.eb_scoping.proofs.uses.plain_names.Given as goal
 
 abbrev pub invariant-loop-used : goal.invariant-loop-used

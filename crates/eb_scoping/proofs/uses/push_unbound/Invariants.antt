@@ -1,5 +1,6 @@
 use Rattle.std.proofs.Common.{◌≡◌, ◌++◌, map, take}
-use Rattle.eb_scoping.specs.FreeNames.{unbound, seen}
+use Rattle.eb_scoping.specs.FreeNames.{seen}
+use Rattle.eb_scoping.specs.steps.FreeByParts.{unbound}
 use Rattle.eb_scoping.proofs.uses.push_unbound.Given as goal
 
 abbrev pub invariant-loop-used : goal.invariant-loop-used

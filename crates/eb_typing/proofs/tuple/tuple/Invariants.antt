@@ -1,7 +1,7 @@
 use Rattle.std.proofs.Common.{◌≡◌, take}
 use Rattle.std.specs.Prelude.{ℕ, fold}
 use Rattle.eb_typing.specs.steps.Generating as spec
-use Rattle.eb_typing.specs.Typing.{ungrouped}
+use Rattle.eb_resolved.specs.Patterns.{ungrouped}
 use Rattle.eb_typing.proofs.tuple.tuple.Given as goal
 
 abbrev pub invariant-loop-token : goal.invariant-loop-token

@@ -1,7 +1,7 @@
 use Rattle.std.proofs.Common.{◌≡◌, ◌∙◌, Bool, ◌&&◌, ◌||◌, sym, ap₂}
 use Rattle.eb_syntax.specs.declared.ast.Operator.{Operator}
 use Rattle.eb_term.specs.declared.term.Term.{Term}
-use Rattle.eb_meaning.specs.Meaning.{is_product}
+use Rattle.operator_kinds.specs.Operators.{is_product}
 use Rattle.eb_wd.proofs.ConditionsAt.{conditions}
 use Rattle.eb_wd.proofs.WellDefinedAt as at
 use Rattle.eb_wd.proofs.WellDefinedAt.{becomes}

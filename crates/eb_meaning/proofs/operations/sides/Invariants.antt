@@ -1,7 +1,0 @@
-use Rattle.std.proofs.Common.{◌≡◌, ◌++◌, drop}
-use Rattle.std.specs.List.{filter_map}
-use Rattle.eb_meaning.specs.Meaning as spec
-use Rattle.eb_meaning.proofs.operations.sides.Given as goal
-
-abbrev pub invariant-loop-value : goal.invariant-loop-value
-invariant-loop-value l = filter_map (spec.part_of l.side) l.values ≡ l.sides.items ++ filter_map (spec.part_of l.side) (drop l.value-index l.values)

@@ -1,0 +1,3 @@
+mod CanonicalLists
+mod CanonicalMaps
+mod Powers

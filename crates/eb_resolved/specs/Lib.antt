@@ -1,0 +1,4 @@
+pub mod Formulas
+pub mod Patterns
+pub mod Resolving
+pub mod Unknown
