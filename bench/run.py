@@ -214,6 +214,8 @@ def main():
     for kind, name in (
         ("products", "meaning: ! over 4,096 instances"),
         ("squares", "meaning: card of 4,096 instances"),
+        ("narrow", "narrow form of 10,000 nodes"),
+        ("narrow_wide", "narrow form of 1,000,000 nodes"),
     ):
         show(name, timed([meanings, kind]))
     for operator, name in (

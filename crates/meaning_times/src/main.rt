@@ -1,4 +1,5 @@
-//! Evaluates the formula that each word names, and prints its value or its truth. The script under bench/ times it.
+//! Evaluates the formula that each word names, and prints its value or its truth; or brings it into narrow form, and prints how
+//! many nodes that has. The script under bench/ times it.
 //!
 //! A formula is made on a stack: what is written first lies below, and an operator takes its parts from the top.
 #![tactic(auto)]
@@ -7,8 +8,9 @@ ghost use Rattle.eb_value.specs.Canonical.{AreCanonical};
 ghost use Rattle.eb_meaning.specs.Slots.{AreCanonicalSlots};
 
 use eb_meaning::{Env, Slots, Truth3, eval, truth};
+use eb_narrow::{narrow, narrowed_nodes};
 use eb_syntax::{Call, Operator};
-use eb_term::{Binary, Binder, Head, Many, Path, SharedType, Term, Terms, Unary};
+use eb_term::{Binary, Binder, Head, Infinite, Many, Path, SharedType, Term, Terms, Unary};
 use eb_value::{EbType, Form, Scope, Sizes, Value, Values};
 use sqlite_items::Items;
 use std::alloc::{AllocError, Global};
@@ -164,7 +166,43 @@ fn result(alloc: Global, term: &Term, is_predicate: bool) -> Result<i64, AllocEr
     }
 }
 
+/// `1 + 2`
+fn sum(alloc: Global) -> Result<Term, AllocError> {
+    let one = Term::integer(alloc, 1)?;
+    let two = Term::integer(alloc, 2)?;
+    Term::binary(alloc, Binary::Operator(Operator::Plus), one, two)
+}
+
+/// `{1 + 2, 1 + 2, ..} <: NAT`, with so many members
+fn naturals(alloc: Global, count: u32) -> Result<Term, AllocError> {
+    let mut members = Terms::new(alloc);
+    for _ in 0..count {
+        members.push(sum(alloc)?)?;
+    }
+    let set = Term::many(Many::Extension, members);
+    let naturals = Term {
+        head: Head::Infinite(Infinite::Naturals),
+    };
+    let operator = Binary::Operator(Operator::SubsetOf);
+    Term::binary(alloc, operator, set, naturals)
+}
+
+/// How many nodes such a formula has in narrow form, which is made besides.
+fn narrowed(alloc: Global, count: u32) -> Result<i64, AllocError> {
+    let term = naturals(alloc, count)?;
+    let _narrow = narrow(alloc, &term)?;
+    Ok(i64::try_from(narrowed_nodes(&term)).unwrap_or(-1))
+}
+
 fn answer(alloc: Global, word: &str) -> Result<i64, AllocError> {
+    match word {
+        "narrow" => narrowed(alloc, 3_333),
+        "narrow_wide" => narrowed(alloc, 333_333),
+        _ => evaluated(alloc, word),
+    }
+}
+
+fn evaluated(alloc: Global, word: &str) -> Result<i64, AllocError> {
     let mut stack = Terms::new(alloc);
     let is_predicate = word == "products";
     if is_predicate {
