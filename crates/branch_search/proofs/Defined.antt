@@ -12,7 +12,7 @@ use Rattle.eb_term.specs.Leaves.{references}
 use Rattle.eb_operations.specs.declared.truth3.Truth3.{Truth3}
 use Rattle.eb_operations.specs.declared.truth3.Truth3.TheVariants.{True, Undefined}
 use Rattle.eb_meaning.specs.Meaning.{Slot, is_value, slot_at, value_of, truth_in}
-use Rattle.eb_meaning.specs.Problems.{outermost, with_definitions, slots_of, names_undefined, fact_at, IsTrueOf, AreDefinitionsNamed}
+use Rattle.eb_meaning.specs.Problems.{outermost, with_definitions, slots_of, is_undefined_at, names_undefined, fact_at, IsTrueOf, AreDefinitionsNamed}
 
 -- ---- lists
 
@@ -74,13 +74,19 @@ names_none : (undefined : Bool) (t : Truth3) → cond undefined Undefined t ≡ 
 names_none true t e = absurd (cc)
 names_none false t e = refl
 
-named_value : (scope : Scope) (slots : List Slot) (facts : List Term) (place : ℕ) → All (λ fact. fact_at scope slots fact ≡ True) facts
+-- what stands at a place that there is, has a value or is Undefined
+value_there : (slots : List Slot) (place : ℕ) → place < length slots → is_undefined_at slots place ≡ false → is_value (slot_at slots place) ≡ true
+value_there [] place l e = absurd (omega arith)
+value_there (s ∷ slots) zero l e = is_true_of_not (is_value s) e
+value_there (s ∷ slots) (suc place) l e = value_there slots place (omega arith) e
+
+named_value : (scope : Scope) (slots : List Slot) (facts : List Term) (place : ℕ) → place < length slots → All (λ fact. fact_at scope slots fact ≡ True) facts
     → Contains (flat_map references facts) place → is_value (slot_at slots place) ≡ true
-named_value scope slots [] place all (k, l, same) = absurd (omega (arith, l))
-named_value scope slots (fact ∷ facts) place all named = ⊎_elim
-    (λ here. is_true_of_not (is_value (slot_at slots place))
-    (fails_at (λ p. not (is_value (slot_at slots p))) (references fact) place (names_none (names_undefined slots fact) (truth_in scope (outermost slots) fact) (all 0 fact (omega arith))) here))
-    (λ later. named_value scope slots facts place (λ i d l. all (suc i) d (omega (arith, l))) later)
+named_value scope slots [] place within all (k, l, same) = absurd (omega (arith, l))
+named_value scope slots (fact ∷ facts) place within all named = ⊎_elim
+    (λ here. value_there slots place within
+    (fails_at (is_undefined_at slots) (references fact) place (names_none (names_undefined slots fact) (truth_in scope (outermost slots) fact) (all 0 fact (omega arith))) here))
+    (λ later. named_value scope slots facts place within (λ i d l. all (suc i) d (omega (arith, l))) later)
     (Contains-append_cases (references fact) (flat_map references facts) place named)
 
 pub all_defined : (scope : Scope) (problem : Problem) (values : List Value) → length values ≡ length problem.choices → AreDefinitionsNamed problem
@@ -94,5 +100,5 @@ all_defined scope problem values same named all = each_slot (slots_of scope prob
       (λ front. ap is_value (front_stays scope problem.definitions (map (λ v. Some v) values) k (omega (arith, front, given))) ∙ given_value values k front)
       (λ back. subst (λ place. is_value (slot_at (slots_of scope problem.definitions values) place) ≡ true) (sym back.1)
       (subst (λ n. is_value (slot_at (slots_of scope problem.definitions values) (n + back.0)) ≡ true) (sym same)
-      (named_value scope (slots_of scope problem.definitions values) problem.facts (length problem.choices + back.0) all (named back.0 (omega (arith, l, count, given, back.1))))))
+      (named_value scope (slots_of scope problem.definitions values) problem.facts (length problem.choices + back.0) (omega (arith, l, same, back.1)) all (named back.0 (omega (arith, l, count, given, back.1))))))
       (split_place (length values) k)

@@ -18,8 +18,8 @@ use Rattle.eb_operations.specs.declared.truth3.Truth3.{Truth3}
 use Rattle.eb_operations.specs.declared.truth3.Truth3.TheVariants.{Undefined}
 use Rattle.eb_meaning.specs.Truths.{truth_of, tested, negation, conjunction}
 use Rattle.eb_meaning.specs.Arithmetic.{int_of}
-use Rattle.eb_meaning.specs.Meaning.{Slot, Env, is_value, slot_at, with_two, test_by, truth_by, meaning, value_of, truth_in}
-use Rattle.eb_meaning.specs.Problems.{outermost, slots_of, names_undefined, fact_at, IsTrueOf}
+use Rattle.eb_meaning.specs.Meaning.{Slot, Env, with_two, test_by, truth_by, meaning, value_of, truth_in}
+use Rattle.eb_meaning.specs.Problems.{outermost, slots_of, is_undefined_at, names_undefined, fact_at, IsTrueOf}
 use Rattle.cbc_answers.specs.Models.{operation, negated, relation_operator, narrow_relation, sum_term, comparison_term, comparison_fact, conjunction_on, conjunction_of, axiom_term, axiom_fact}
 
 -- ---- truth
@@ -126,11 +126,11 @@ any_append test (x ∷ xs) ys = ap (λ z. test x || z) (any_append test xs ys) �
 
 names-operation : (slots : List Slot) (o : Operator) (a b : Term) → names_undefined slots (operation o a b) ≡ (names_undefined slots a || names_undefined slots b)
 names-operation slots o a b =
-    ap (list_any (λ place. not (is_value (slot_at slots place)))) (references-operation o a b)
-    ∙ any_append (λ place. not (is_value (slot_at slots place))) (references a) (references b)
+    ap (list_any (is_undefined_at slots)) (references-operation o a b)
+    ∙ any_append (is_undefined_at slots) (references a) (references b)
 
 names-negated : (slots : List Slot) (a : Term) → names_undefined slots (negated a) ≡ names_undefined slots a
-names-negated slots a = ap (list_any (λ place. not (is_value (slot_at slots place)))) (references-negated a)
+names-negated slots a = ap (list_any (is_undefined_at slots)) (references-negated a)
 
 names-two : (slots : List Slot) (o p : Operator) (a b : Term) → names_undefined slots (operation o a b) ≡ names_undefined slots (operation p a b)
 names-two slots o p a b = names-operation slots o a b ∙ sym (names-operation slots p a b)

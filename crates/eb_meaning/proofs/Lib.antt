@@ -14,3 +14,4 @@ mod TypedOperations
 mod TypedOperators
 mod TypedParts
 mod TypedValues
+mod ValuedSlots

@@ -1,5 +1,5 @@
 -- Problems, their valuations and their solutions.
-use Rattle.std.specs.Prelude.{◌≡◌, ⊤, ℕ, ◌+◌, ◌<◌, true, if◌then◌else◌, Bool, not, List, [], ◌∷◌, ◌++◌, map, length, Some, Contains}
+use Rattle.std.specs.Prelude.{◌≡◌, ⊤, ℕ, ◌+◌, ◌<◌, true, false, if◌then◌else◌, Bool, not, List, [], ◌∷◌, ◌++◌, map, length, Option, Some, None, slice_get, Contains}
 use Rattle.std.specs.List.{All, list_all, list_any, flat_map}
 use Rattle.eb_value.specs.declared.scope.Scope.{Scope}
 use Rattle.eb_value.specs.declared.value.Value.{Value}
@@ -10,7 +10,7 @@ use Rattle.eb_term.specs.declared.term.Term.{Term}
 use Rattle.eb_term.specs.Leaves.{references}
 use Rattle.eb_operations.specs.declared.truth3.Truth3.{Truth3}
 use Rattle.eb_operations.specs.declared.truth3.Truth3.TheVariants.{True, Undefined}
-use Rattle.eb_meaning.specs.Meaning.{Slot, Env, is_value, slot_at, value_of, truth_in}
+use Rattle.eb_meaning.specs.Meaning.{Slot, Env, is_value, value_of, truth_in}
 
 -- each choice has a value of its type in the scope
 abbrev pub IsValuation : Scope → List Choice → List Value → Type 0
@@ -32,9 +32,18 @@ with_definitions scope slots (d ∷ ds) = with_definitions scope (slots ++ value
 abbrev pub slots_of : Scope → List Term → List Value → List Slot
 slots_of scope definitions values = with_definitions scope (map (λ v. Some v) values) definitions
 
--- the term refers to something that is Undefined
+-- something stands there, and it is Undefined
+abbrev pub is_undefined : Option Slot → Bool
+is_undefined None = false
+is_undefined (Some o) = not (is_value o)
+
+-- the list has this place, and what stands there is Undefined
+abbrev pub is_undefined_at : List Slot → ℕ → Bool
+is_undefined_at slots place = is_undefined (slice_get slots place)
+
+-- the term refers to a place of the list where something Undefined stands
 abbrev pub names_undefined : List Slot → Term → Bool
-names_undefined slots t = list_any (λ place. not (is_value (slot_at slots place))) (references t)
+names_undefined slots t = list_any (is_undefined_at slots) (references t)
 
 -- a fact's truth, which is Undefined where it refers to something that is
 abbrev pub fact_at : Scope → List Slot → Term → Truth3

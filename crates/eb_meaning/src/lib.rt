@@ -12,5 +12,8 @@ mod problems;
 mod setting;
 
 pub use eb_operations::Truth3;
-pub use laws::{terms_look_at_their_references_alone, typed_terms_have_values_of_their_types};
+pub use laws::{
+    facts_over_values_have_their_own_truth, terms_look_at_their_references_alone,
+    typed_terms_have_values_of_their_types,
+};
 pub use problems::{Env, Slots, eval, fact_at, slots_of, truth};

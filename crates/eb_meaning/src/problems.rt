@@ -7,7 +7,7 @@ ghost use Rattle.eb_meaning.specs.Problems as spec;
 ghost use Rattle.eb_meaning.specs.Slots.{AreCanonicalSlots};
 
 use crate::evaluation::{truth_at, value_at};
-use crate::setting::{Setting, slot_in};
+use crate::setting::Setting;
 use eb_operations::Truth3;
 use eb_term::{Head, Term};
 use eb_value::{Row, Scope, Value};
@@ -85,7 +85,8 @@ fn given(alloc: Global, values: &[Value]) -> Result<Slots, AllocError>
     Ok(slots)
 }
 
-/// The truth of a fact, which is Undefined where it refers to something that is. The only error is want of memory.
+/// The truth of a fact, which is Undefined where it refers to a place where something Undefined stands. The only error is want of
+/// memory.
 pub fn fact_at(
     alloc: Global,
     scope: &Scope,
@@ -101,13 +102,23 @@ pub fn fact_at(
     truth_at(alloc, scope, &Setting::new(slots, &[]), fact)
 }
 
-/// Whether the term refers to something that is Undefined.
+/// Whether there is this place, and what stands there is Undefined.
+fn is_undefined_at(slots: &[Option<Value>], place: u32) -> bool
+    ensures { result ≡ spec.is_undefined_at slots.now place }
+{
+    match slots.get(place as usize) {
+        Some(slot) => slot.is_none(),
+        None => false,
+    }
+}
+
+/// Whether the term refers to a place where something Undefined stands.
 #[cycle(referring)]
 fn names_undefined(slots: &[Option<Value>], term: &Term) -> bool
     ensures { result ≡ spec.names_undefined slots.now term.now }
 {
     match &term.head {
-        Head::Reference(place, _) => slot_in(slots, *place).is_none(),
+        Head::Reference(place, _) => is_undefined_at(slots, *place),
         Head::Unary(_, part) => names_undefined(slots, part.get()),
         Head::Binary(_, left, right) => {
             names_undefined(slots, left.get()) || names_undefined(slots, right.get())

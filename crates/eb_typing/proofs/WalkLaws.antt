@@ -6,8 +6,8 @@ use Rattle.type_table.specs.declared.pattern.Pattern.{Pattern}
 use Rattle.eb_typing.specs.declared.generated.Found.{Found}
 use Rattle.eb_typing.specs.declared.generated.Letters.{Letters}
 use Rattle.eb_typing.specs.declared.generated.Generated.{Generated}
-use Rattle.eb_typing.specs.Numbering.{Numbered, parts_of, numbered}
-use Rattle.eb_typing.specs.steps.Generating.{fit, fits, row, row_of_all, gen, gens, letters_at, after_letters, build, width, widest, width_of_all}
+use Rattle.eb_typing.specs.Numbering.{Numbered, parts_of, all, numbered}
+use Rattle.eb_typing.specs.steps.Generating.{fit, fits, row_of_all, gen, gens, letters_at, after_letters, build, width, widest}
 
 pub fits_all : {R : Type 0} (l : Letters) (part : Pattern) (rs : List R) (fs : List Found) (g : Generated) → length rs ≡ length fs → fits l (map (λ _. part) rs) fs g ≡ fold (λ h f. fit l part f h) g fs
 fits_all l part [] [] g e = refl
@@ -23,19 +23,14 @@ one_more : {R : Type 0} (part whole : Pattern) (rs : List R) → max (width part
 one_more part whole [] = refl
 one_more part whole (r ∷ rs) = omega (arith, one_more part whole rs)
 
-width_all : {R : Type 0} (part whole : Pattern) (rs : List R) (fs : List Found) → length rs ≡ length fs → width_of_all part whole fs ≡ widest (map (λ _. part) rs) whole
-width_all part whole [] [] e = refl
-width_all part whole [] (f ∷ fs) e = absurd (omega arith)
-width_all part whole (r ∷ rs) [] e = absurd (omega arith)
-width_all part whole (r ∷ rs) (f ∷ fs) e = one_more part whole rs
-
-pub all_row : (asked : ℕ) (part whole : Pattern) (ts : List Numbered) (g h : Generated) → row_of_all part whole (gens asked (parts_of ts) g).0 h ≡ row (map (λ _. part) ts) whole (gens asked (parts_of ts) g).0 h
-all_row asked part whole ts g h =
-    let found = (gens asked (parts_of ts) g).0 in
-    let count = gens_length asked ts g in
+pub all_row : (asked : ℕ) (part whole : Pattern) (ts : List Numbered) (g : Generated) → (let r = gens asked (parts_of ts) g in row_of_all part whole r.0 r.1) ≡ gen asked (all part whole ts) g
+all_row asked part whole [] g = refl
+all_row asked part whole (t ∷ ts) g =
+    let r = gens asked (parts_of (t ∷ ts)) g in
+    let h = r.1 in
     let l = letters_at h.next in
-    ap (λ n. build l whole (fold (λ k f. fit l part f k) (after_letters n h) found)) (width_all part whole ts found count)
-    ∙ ap (λ z. build l whole z) (sym (fits_all l part ts found (after_letters (widest (map (λ _. part) ts) whole) h) count))
+    ap (λ n. build l whole (fold (λ k f. fit l part f k) (after_letters n h) r.0)) (one_more part whole ts)
+    ∙ ap (λ z. build l whole z) (sym (fits_all l part (t ∷ ts) r.0 (after_letters (widest (map (λ _. part) (t ∷ ts)) whole) h) (gens_length asked (t ∷ ts) g)))
 
 -- what is left to walk over, as it stands after some formulas
 pub record Walked (asked : ℕ) (all rest : List Resolved) (before out : Generated) (found : List Found) : Type 0 where

@@ -5,6 +5,8 @@ use Rattle.eb_syntax.specs.declared.ast.Binder.{Binder}
 use Rattle.eb_syntax.specs.declared.ast.Binder.TheVariants as binder
 use Rattle.eb_syntax.specs.declared.ast.Bound.{Bound}
 use Rattle.eb_syntax.specs.declared.ast.Bound.TheVariants as bound
+use Rattle.eb_syntax.specs.declared.ast.Constant.{Constant}
+use Rattle.eb_syntax.specs.declared.ast.Constant.TheVariants as constant
 use Rattle.eb_syntax.specs.declared.ast.Mark.{Mark}
 use Rattle.type_table.specs.declared.pattern.Letter.TheVariants.{A}
 use Rattle.type_table.specs.declared.pattern.Pattern.{Pattern}
@@ -23,7 +25,7 @@ mutual
   pub data Numbered : Type 0 where
     -- an identifier or a mark
     typed : ℕ → Numbered
-    -- a name that stands for nothing
+    -- a name that stands for nothing, or what has no type at all
     unknown : Numbered
     -- the pattern of a `%` whose first identifier has this number, the next one the next number, and so on
     tuple : List Mark → ℕ → Numbered
@@ -51,9 +53,25 @@ abbrev pub parts_of : List Numbered → Parts
 parts_of [] = none
 parts_of (t ∷ ts) = also t (parts_of ts)
 
--- the same pattern for each part
+-- the same pattern for each part, where there is one
 abbrev pub all : Pattern → Pattern → List Numbered → Numbered
-all part whole ts = made (map (λ _. part) ts) whole (parts_of ts)
+all part whole [] = unknown
+all part whole (t ∷ ts) = made (map (λ _. part) (t ∷ ts)) whole (parts_of (t ∷ ts))
+
+-- a constant that has one type, or is a predicate: the others are marks
+abbrev pub plain : Constant → Numbered
+plain constant.Truth = made [] (constant_pattern constant.Truth) none
+plain constant.Falsity = made [] (constant_pattern constant.Falsity) none
+plain constant.Integers = made [] (constant_pattern constant.Integers) none
+plain constant.Naturals = made [] (constant_pattern constant.Naturals) none
+plain constant.PositiveNaturals = made [] (constant_pattern constant.PositiveNaturals) none
+plain constant.Booleans = made [] (constant_pattern constant.Booleans) none
+plain constant.TrueValue = made [] (constant_pattern constant.TrueValue) none
+plain constant.FalseValue = made [] (constant_pattern constant.FalseValue) none
+plain constant.Identity = unknown
+plain constant.FirstProjection = unknown
+plain constant.SecondProjection = unknown
+plain constant.EmptySet = unknown
 
 -- the pattern of a `%`
 abbrev pub tuple_of : Bound → ℕ → Numbered
@@ -70,7 +88,7 @@ number_step (form.Number n) = made [] p.Integer none
 number_step (form.Identifier k) = typed k
 number_step (form.Primed k) = typed k
 number_step (form.Unknown x is_primed) = unknown
-number_step (form.Constant c) = made [] (constant_pattern c) none
+number_step (form.Constant c) = plain c
 number_step (form.Mark c k) = marked (constant_pattern c) k
 number_step (form.Prefix op t) = of_one (prefix_row op) t
 number_step (form.Call op t) = of_one (call_row op) t

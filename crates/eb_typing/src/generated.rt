@@ -76,16 +76,6 @@ fn ternary_width(row: TernaryRow) -> u32
     width(row.first).max(width(row.second).max(last))
 }
 
-fn width_of_all(part: Pattern, whole: Pattern, parts: &[Found]) -> u32
-    ensures { result ≡ spec.width_of_all part whole parts.now }
-{
-    if parts.is_empty() {
-        width(whole)
-    } else {
-        width(part).max(width(whole))
-    }
-}
-
 /// Equations, and the first number that they leave free.
 #[derive(Drop)]
 pub(crate) struct Generated {
@@ -382,7 +372,18 @@ impl Generated {
         Ok(())
     }
 
-    /// What has parts that are all as one pattern says.
+    /// What has these parts, which are all as one pattern says.
+    fn some(&mut self, part: Pattern, whole: Pattern, parts: &[Found]) -> Result<Found, AllocError>
+        ensures found { IfOk result (λ found. found ≡ (spec.row_of_some part whole parts.now self.old).0) }
+        ensures made { OnOk result (self.new ≡ (spec.row_of_some part whole parts.now self.old).1) }
+    {
+        let letters = self.letters(width(part).max(width(whole)))?;
+        self.fit_all(letters, part, parts)?;
+        let found = self.build(letters, whole)?;
+        Ok(found)
+    }
+
+    /// What has parts that are all as one pattern says. Without a part it has no type.
     pub(crate) fn all(
         &mut self,
         part: Pattern,
@@ -392,10 +393,13 @@ impl Generated {
         ensures found { IfOk result (λ found. found ≡ (spec.row_of_all part whole parts.now self.old).0) }
         ensures made { OnOk result (self.new ≡ (spec.row_of_all part whole parts.now self.old).1) }
     {
-        let letters = self.letters(width_of_all(part, whole, parts))?;
-        self.fit_all(letters, part, parts)?;
-        let found = self.build(letters, whole)?;
-        Ok(found)
+        match parts {
+            [] => {
+                self.contradict(0)?;
+                Ok(Found::Expression(0))
+            }
+            [_, ..] => self.some(part, whole, parts),
+        }
     }
 
     /// The formula is a predicate.

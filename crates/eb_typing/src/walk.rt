@@ -1,5 +1,5 @@
 //! The equations of formulas, part by part.
-ghost use Rattle.std.specs.Prelude.{◌≡◌, IfOk, OnOk, map};
+ghost use Rattle.std.specs.Prelude.{◌≡◌, ℕ, IfOk, OnOk, map};
 ghost use Rattle.type_table.specs.declared.pattern.Letter.TheVariants.{A};
 ghost use Rattle.type_table.specs.declared.pattern.Pattern.TheVariants as p;
 ghost use Rattle.type_table.specs.Rows.{unary};
@@ -9,7 +9,7 @@ ghost use Rattle.eb_typing.specs.Numbering as numbers;
 use crate::generated::{Found, Generated};
 use crate::tuple::{check, tuple};
 use eb_resolved::{Resolved, ResolvedNode};
-use eb_syntax::{Binder, Bound};
+use eb_syntax::{Binder, Bound, Constant};
 use sqlite_items::{Boxed, Items};
 use std::alloc::{AllocError, Global};
 use type_table::{
@@ -34,6 +34,27 @@ pub(crate) fn unknown(out: &mut Generated) -> Result<Found, AllocError>
 {
     out.contradict(0)?;
     Ok(Found::Expression(0))
+}
+
+/// A constant. A mark has a type by its number, and none without one.
+fn plain(constant: Constant, out: &mut Generated) -> Result<Found, AllocError>
+    ensures found { (asked : ℕ) → IfOk result (λ found. found ≡ (spec.gen asked (numbers.plain constant) out.old).0) }
+    ensures made { (asked : ℕ) → OnOk result (out.new ≡ (spec.gen asked (numbers.plain constant) out.old).1) }
+{
+    match constant {
+        Constant::Truth
+        | Constant::Falsity
+        | Constant::Integers
+        | Constant::Naturals
+        | Constant::PositiveNaturals
+        | Constant::Booleans
+        | Constant::TrueValue
+        | Constant::FalseValue => out.leaf(constant_pattern(constant)),
+        Constant::Identity
+        | Constant::FirstProjection
+        | Constant::SecondProjection
+        | Constant::EmptySet => unknown(out),
+    }
 }
 
 fn marked(
@@ -107,7 +128,7 @@ pub(crate) fn walk(
             typed(asked, *number, out)
         }
         ResolvedNode::Unknown(_, _) => unknown(out),
-        ResolvedNode::Constant(constant) => out.leaf(constant_pattern(*constant)),
+        ResolvedNode::Constant(constant) => plain(*constant, out),
         ResolvedNode::Mark(constant, number) => {
             marked(asked, constant_pattern(*constant), *number, out)
         }

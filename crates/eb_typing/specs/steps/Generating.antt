@@ -156,10 +156,6 @@ abbrev pub widest : List Pattern → Pattern → ℕ
 widest [] whole = width whole
 widest (q ∷ qs) whole = max (width q) (widest qs whole)
 
-abbrev pub width_of_all : Pattern → Pattern → List Found → ℕ
-width_of_all part whole [] = width whole
-width_of_all part whole (f ∷ fs) = max (width part) (width whole)
-
 -- that many letters have numbers
 abbrev pub after_letters : ℕ → Generated → Generated
 after_letters k g = record { next = g.next + k; equations = g.equations }
@@ -174,8 +170,13 @@ fits l (q ∷ qs) [] g = contradict 0 g
 abbrev pub row : List Pattern → Pattern → List Found → Generated → Found × Generated
 row qs whole fs g = let l = letters_at g.next in build l whole (fits l qs fs (after_letters (widest qs whole) g))
 
+-- parts that are all as one pattern says
+abbrev pub row_of_some : Pattern → Pattern → List Found → Generated → Found × Generated
+row_of_some part whole fs g = let l = letters_at g.next in build l whole (fold (λ h f. fit l part f h) (after_letters (max (width part) (width whole)) g) fs)
+
 abbrev pub row_of_all : Pattern → Pattern → List Found → Generated → Found × Generated
-row_of_all part whole fs g = let l = letters_at g.next in build l whole (fold (λ h f. fit l part f h) (after_letters (width_of_all part whole fs) g) fs)
+row_of_all part whole [] g = (Expression 0, contradict 0 g)
+row_of_all part whole (f ∷ fs) g = row_of_some part whole (f ∷ fs) g
 
 abbrev pub demand : Found → Generated → Generated
 demand Predicate g = g

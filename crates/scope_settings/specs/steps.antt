@@ -1,0 +1,2 @@
+-- Means of proof, which only private functions cite.
+pub mod Judging
