@@ -30,6 +30,9 @@ def rows():
     yield "16 constants, 65,536 valuations", model(letters, f"@a {' + '.join(letters)} > 16", 0, 1)
     long_axiom = " & ".join(["n >= 0"] * 49 + ["n < 0"])
     yield "50 comparisons, 32,768 valuations", model(["n"], f"@a {long_axiom}", 0, 32767)
+    true = [f"@a{k} n * n * n + 3 * n + {k} * m * m >= 0 - 3 * n - m - {k}" for k in range(4)]
+    false = "@a4 n * n * n + 3 * n - 4 * m = n * n * n + 3 * n - 4 * m + 1"
+    yield "5 axioms of 10 operators, 99,856 valuations", model(["n", "m"], " ".join((*true, false)), 0, 315)
     constants = [f"c{k}" for k in range(3000)]
     parts = [" + ".join(constants[k : k + 50]) for k in range(0, 3000, 50)]
     axioms = " ".join(f"@a{k} {part} > 50" for k, part in enumerate(parts))
@@ -70,7 +73,7 @@ def units_of(size, unit):
 
 
 def unit_rows():
-    """Texts of many small units, which are read, named and typed, and aren't answered yet: laid out in lines, or in one."""
+    """Texts of many small units, which are read, named and typed, and ask nothing: laid out in lines, or in one."""
     integers = (
         "context C{0}\nconstants\n  a{0}, b{0}\naxioms\n"
         "  @sum a{0} + 12 * b{0} <= 40 & a{0} >= b{0} - 3\n  @not_seven a{0} /= 7\nend\n\n"
@@ -147,6 +150,19 @@ def type_rows():
     yield "a type 51,000 deep", filled(", ".join(f"x{k}" for k in range(301)), " ".join(deep))
 
 
+def lowered_rows():
+    """Texts of 4 MiB whose axioms are read and typed, or are also made terms since a query asks for them. Their problem is larger than
+    the limit on nodes."""
+    size = 4 << 20
+    integers = "@a{0} n + 12 * m <= {0} & m >= n - 3 => n * m /= 7\n"
+    binders = "@a{0} !x,y.x : 0..n & y : {{k.k : 1..x | k + {0}}} => x < y + m\n"
+    sets = "@a{0} f : 1..n --> 0..m & (f \\/ {{1 |-> {0}}})[{{m}}] <: ran(f) & card(f) = n\n"
+    for name, axiom in (("integers", integers), ("binders", binders), ("sets", sets)):
+        parts = units_of(size - 200, axiom)
+        for asked, queries in (("no query", ""), ("asked", "queries axioms end\n")):
+            yield f"4 MiB of {name}, {asked}", f"context C constants n, m, f axioms {parts} @f f = {{1 |-> 1}} end\n{queries}"
+
+
 def timed(words, to=None):
     start = time.monotonic()
     child = subprocess.Popen(words, stdout=subprocess.PIPE)
@@ -200,7 +216,7 @@ def main():
             file.write(text)
             file.flush()
             show(name, timed([program, "solve", file.name]))
-    for name, text in (*unit_rows(), *hostile_rows(), *type_rows()):
+    for name, text in (*unit_rows(), *hostile_rows(), *type_rows(), *lowered_rows()):
         with tempfile.NamedTemporaryFile("w", suffix=".eb") as file:
             file.write(text)
             file.flush()

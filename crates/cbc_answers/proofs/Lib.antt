@@ -1,6 +1,5 @@
-pub mod Bools
-pub mod TextLaws
-pub mod Narrowing
 pub mod Witnesses
+pub mod PushedTexts
 pub mod TreeTexts
+pub mod Found
 pub mod PrintedVerdicts

@@ -1,1 +1,2 @@
-pub mod Faults
+-- Means of proof: no public clause names what stands here.
+pub mod Repeating

@@ -1,38 +1,65 @@
-//! The answer to a model's query, and the verdict on a tree for it.
-ghost use Rattle.std.specs.Prelude.{◌≡◌, true, ◌≤◌, length, IfOk};
-ghost use Rattle.linear_models.specs.Language.{is_well_formed};
+//! The answers to what a text asks, and the verdict on a tree for it.
+ghost use Rattle.std.specs.Prelude.{◌≡◌, ◌≤◌, Some, length, IfOk};
+ghost use Rattle.model_text.specs.Asking.{IsLawful};
 ghost use Rattle.cbc_answers.specs.Answers as spec;
 
-use crate::answer::{found, judged, refuted, undecided};
-use crate::problem::{problem_of, scope_of};
+use crate::answer::{found, head, judged, refuted, repeated, undecided};
 use crate::status::Status;
 use branch_search::{Answer, search};
+use cbc_query::{axioms_notes, carriers};
 use eb_names::Bytes;
-use linear_models::LinearModel;
+use eb_term::Problem;
+use model_text::Asked;
 use std::alloc::{AllocError, Global};
 use tree_checker::{Verdict, check_text};
+use witness_laws::solutions_are_witnesses;
 
-/// The answer to the query of a model, and the status after it: a witness; a refutation in the scope; or a tree that leaves boxes
-/// open since it has as many splits as the budget allows. The only error is want of memory.
-pub fn solved(alloc: Global, text: &LinearModel, budget: u64) -> Result<(Bytes, Status), AllocError>
-    requires { is_well_formed text.now ≡ true }
-    ensures { IfOk result (λ d. spec.IsAnswer text.now budget d.0 d.1) }
+/// The answer to a query, and the status after it.
+fn answered(
+    alloc: Global,
+    asked: &Asked,
+    problem: &Problem,
+    budget: u64,
+) -> Result<(Bytes, Status), AllocError>
+    requires lawful { IsLawful asked.now }
+    requires problem { asked.now.problem ≡ Some problem.now }
+    requires same { problem.now ≡ spec.problem_of asked.now }
+    ensures { IfOk result (λ d. spec.IsAnswer asked.now budget d.0 d.1) }
 {
-    let problem = problem_of(alloc, text)?;
-    let scope = scope_of(alloc, text);
-    match search(alloc, &problem, &scope, budget)? {
+    solutions_are_witnesses();
+    let notes = axioms_notes(alloc, &asked.scope, &asked.model, &asked.types)?;
+    let head = head(alloc, notes.as_slice())?;
+    match search(alloc, problem, &asked.scope, budget)? {
         Answer::Found(values) => {
-            let bytes = found(alloc, text.context.constants.as_slice(), values.as_slice())?;
+            let sets = carriers(alloc, &asked.model)?;
+            let bytes = found(alloc, head, &sets, &asked.model, values.as_slice())?;
             Ok((bytes, Status::Decided))
         }
         Answer::Refuted(lines) => {
-            let bytes = refuted(alloc, lines.as_slice())?;
+            let bytes = refuted(alloc, head, lines.as_slice())?;
             Ok((bytes, Status::Decided))
         }
         Answer::Undecided(lines) => {
-            let bytes = undecided(alloc, budget, lines.as_slice())?;
+            let bytes = undecided(alloc, head, budget, lines.as_slice())?;
             Ok((bytes, Status::Undecided))
         }
+    }
+}
+
+/// The answers to the queries of a text, one behind the other, and the status after them. Each is a witness; a refutation in the
+/// scope; or a tree that leaves boxes open since it has as many splits as the budget allows. All queries ask the same, so
+/// they have the same answer. The only error is want of memory.
+pub fn solved(alloc: Global, asked: &Asked, budget: u64) -> Result<(Bytes, Status), AllocError>
+    requires { IsLawful asked.now }
+    ensures { IfOk result (λ d. spec.AreAnswers asked.now budget asked.now.times d.0 d.1) }
+{
+    match &asked.problem {
+        Some(problem) => {
+            let (bytes, status) = answered(alloc, asked, problem, budget)?;
+            let all = repeated(alloc, bytes.as_slice(), asked.times)?;
+            Ok((all, status))
+        }
+        None => Ok((Bytes::new(alloc), Status::Decided)),
     }
 }
 
@@ -46,20 +73,20 @@ fn status_of(verdict: Verdict) -> Status
     }
 }
 
-/// The verdict on a tree, whoever wrote it, for the problem of a model, and the status after it. The tree has at most 16 MiB. The
+/// The verdict on a tree, whoever wrote it, for the one query of a text, and the status after it. The tree has at most 16 MiB. The
 /// only error is want of memory.
-pub fn checked(
-    alloc: Global,
-    text: &LinearModel,
-    tree: &[u8],
-) -> Result<(Bytes, Status), AllocError>
-    requires well_formed { is_well_formed text.now ≡ true }
+pub fn checked(alloc: Global, asked: &Asked, tree: &[u8]) -> Result<(Bytes, Status), AllocError>
+    requires lawful { IsLawful asked.now }
+    requires one { asked.now.times ≡ 1 }
     requires short { length tree.now ≤ 16777216 }
-    ensures { IfOk result (λ d. spec.IsJudged text.now tree.now d.0 d.1) }
+    ensures { IfOk result (λ d. spec.IsJudged asked.now tree.now d.0 d.1) }
 {
-    let problem = problem_of(alloc, text)?;
-    let scope = scope_of(alloc, text);
-    let verdict = check_text(alloc, &problem, &scope, tree)?;
-    let bytes = judged(alloc, verdict)?;
-    Ok((bytes, status_of(verdict)))
+    match &asked.problem {
+        Some(problem) => {
+            let verdict = check_text(alloc, problem, &asked.scope, tree)?;
+            let bytes = judged(alloc, verdict)?;
+            Ok((bytes, status_of(verdict)))
+        }
+        None => Ok((Bytes::new(alloc), Status::Decided)),
+    }
 }

@@ -3,18 +3,20 @@ use Rattle.std.specs.Prelude.{◌≡◌, ◌⊎◌, ⊤, ℕ, ◌<◌, ◌≤◌
 use Rattle.std.specs.Io.KnownBytes.{Appends}
 use Rattle.cbc_outside.specs.Outside.{Files, Rose}
 use Rattle.cbc_answers.specs.declared.status.Status.{Status}
-use Rattle.cbc_answers.specs.declared.status.Status.TheVariants.{Decided, Refused, ReadFault, WriteFault, Memory}
-use Rattle.cbc_answers.specs.declared.refusal.Refusal.{Refusal}
-use Rattle.cbc_answers.specs.declared.refusal.Refusal.TheVariants.{Words, TooLong, NotYet}
+use Rattle.cbc_answers.specs.declared.status.Status.TheVariants.{Refused, ReadFault, WriteFault, Memory}
+use Rattle.model_text.specs.declared.refusal.Refusal.{Refusal}
+use Rattle.model_text.specs.declared.refusal.Refusal.TheVariants.{Words, TooLong, NotYet}
 use Rattle.cbc_words.specs.declared.action.Action.{Action}
 use Rattle.cbc_words.specs.declared.action.Action.TheVariants as action
 use Rattle.cbc_words.specs.declared.action.Command.{Command}
-use Rattle.linear_models.specs.declared.syntax.LinearModel.{LinearModel}
-use Rattle.cbc_answers.specs.Texts.{IsText, RefusesText}
-use Rattle.cbc_answers.specs.Refusals.{refusal_text}
+use Rattle.model_text.specs.declared.asked.Asked.{Asked}
+use Rattle.model_text.specs.declared.asked.Wanted.{Wanted}
+use Rattle.model_text.specs.declared.asked.Wanted.TheVariants as wanted
+use Rattle.model_text.specs.Texts.{IsText, RefusesText}
+use Rattle.model_text.specs.Refusals.{refusal_text}
 use Rattle.cbc_top.specs.ModelFiles.{joined, IsNextOf, AreAll, AreTooLong}
 use Rattle.cbc_top.specs.Opening.{HasRead}
-use Rattle.cbc_answers.specs.Answers.{IsAnswer, IsJudged}
+use Rattle.cbc_answers.specs.Answers.{AreAnswers, IsJudged}
 
 -- no fault and no want of memory ended the run
 abbrev pub IsAnswered : Status → Type 0
@@ -29,15 +31,15 @@ IsRefusal refusal bytes status = (bytes ≡ refusal_text refusal) × (status ≡
 
 -- ---- which files are opened
 
--- all files of the model were read, and they are a text of the language
-abbrev pub IsModel : List (List ℕ) → List (List ℕ) → LinearModel → Type 0
-IsModel names contents t = AreAll names contents × IsText (joined contents) (Some t)
+-- all files of the model were read, and they ask this by just one query
+abbrev pub AsksOne : List (List ℕ) → List (List ℕ) → Asked → Type 0
+AsksOne names contents a = AreAll names contents × IsText wanted.One (joined contents) a
 
 -- The action opens the file with this name next, behind these contents: the files of the model in their order, and the
--- tree's once the model is read and of the language. The actions that aren't built yet open none.
+-- tree's once the model is read and has just one query, which is answered today. The actions that aren't built yet open none.
 abbrev pub OpensNext : Action → List (List ℕ) → List ℕ → Type 0
 OpensNext (action.Solve names) = IsNextOf names
-OpensNext (action.Check names tree) = λ contents name. IsNextOf names contents name ⊎ (((t : LinearModel) × IsModel names contents t) × (name ≡ tree))
+OpensNext (action.Check names tree) = λ contents name. IsNextOf names contents name ⊎ (((a : Asked) × AsksOne names contents a) × (name ≡ tree))
 OpensNext (action.Cover names) = λ contents name. ⊥
 OpensNext (action.Replay names test) = λ contents name. ⊥
 OpensNext (action.Gen number) = λ contents name. ⊥
@@ -49,42 +51,40 @@ IsNext (Some command) = OpensNext command.action
 
 -- ---- what is lawful
 
--- the text holds something, and what is due on it; or the text's refusal
-abbrev pub OnText : (Option LinearModel → List ℕ → Status → Type 0) → List ℕ → List ℕ → Status → Type 0
-OnText Due text bytes status =
-    ((t : Option LinearModel) × IsText text t × Due t bytes status)
-    ⊎ ((refusal : Refusal) × RefusesText text refusal × IsRefusal refusal bytes status)
+-- the text asks something by so many queries as are wanted, and what is due on it; or the text's refusal
+abbrev pub OnText : Wanted → (Asked → List ℕ → Status → Type 0) → List ℕ → List ℕ → Status → Type 0
+OnText wanted Due text bytes status =
+    ((a : Asked) × IsText wanted text a × Due a bytes status)
+    ⊎ ((refusal : Refusal) × RefusesText wanted text refusal × IsRefusal refusal bytes status)
 
 -- where the files of a model were read, and no other: what is due on their text, or that they are too long
-abbrev pub OnModel : (Option LinearModel → List ℕ → Status → Type 0) → List (List ℕ) → List (List ℕ) → List ℕ → Status → Type 0
-OnModel Due names contents bytes status =
-    (AreAll names contents × OnText Due (joined contents) bytes status)
+abbrev pub OnModel : Wanted → (Asked → List ℕ → Status → Type 0) → List (List ℕ) → List (List ℕ) → List ℕ → Status → Type 0
+OnModel wanted Due names contents bytes status =
+    (AreAll names contents × OnText wanted Due (joined contents) bytes status)
     ⊎ (AreTooLong names contents × IsRefusal TooLong bytes status)
 
--- a text without a query has no answer
-abbrev pub IsSolved : ℕ → Option LinearModel → List ℕ → Status → Type 0
-IsSolved budget None bytes status = (bytes ≡ []) × (status ≡ Decided)
-IsSolved budget (Some t) bytes status = IsAnswer t budget bytes status
+-- the answers to the queries of a text
+abbrev pub IsSolved : ℕ → Asked → List ℕ → Status → Type 0
+IsSolved budget a bytes status = AreAnswers a budget a.times bytes status
 
--- where no tree was read, there is no query that it could be judged by
-abbrev pub IsWithoutTree : Option LinearModel → List ℕ → Status → Type 0
-IsWithoutTree None bytes status = IsRefusal NotYet bytes status
-IsWithoutTree (Some t) bytes status = ⊥
+-- where a query is asked, the tree's file is read
+abbrev pub IsWithoutTree : Asked → List ℕ → Status → Type 0
+IsWithoutTree a bytes status = ⊥
 
 -- The tree was read behind the model. It is judged if it has at most 16 MiB.
 pub record OnTree (names contents : List (List ℕ)) (bytes : List ℕ) (status : Status) : Type 0 where
   pub model : List (List ℕ)
   pub tree : List ℕ
   pub behind : contents ≡ model ++ tree ∷ []
-  pub t : LinearModel
-  pub is_model : IsModel names model t
-  pub due : ((length tree ≤ 16777216) × IsJudged t tree bytes status) ⊎ ((16777216 < length tree) × IsRefusal NotYet bytes status)
+  pub asked : Asked
+  pub asks : AsksOne names model asked
+  pub due : ((length tree ≤ 16777216) × IsJudged asked tree bytes status) ⊎ ((16777216 < length tree) × IsRefusal NotYet bytes status)
 
 -- These bytes and this status are lawful where the action has read these contents and opens no further file. Some actions
 -- aren't built yet.
 abbrev pub Completes : Action → ℕ → List (List ℕ) → List ℕ → Status → Type 0
-Completes (action.Solve names) budget contents bytes status = OnModel (IsSolved budget) names contents bytes status
-Completes (action.Check names tree) budget contents bytes status = OnModel IsWithoutTree names contents bytes status ⊎ OnTree names contents bytes status
+Completes (action.Solve names) budget contents bytes status = OnModel wanted.Any (IsSolved budget) names contents bytes status
+Completes (action.Check names tree) budget contents bytes status = OnModel wanted.One IsWithoutTree names contents bytes status ⊎ OnTree names contents bytes status
 Completes (action.Cover names) budget contents bytes status = IsRefusal NotYet bytes status
 Completes (action.Replay names test) budget contents bytes status = IsRefusal NotYet bytes status
 Completes (action.Gen number) budget contents bytes status = IsRefusal NotYet bytes status

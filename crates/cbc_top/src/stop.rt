@@ -2,7 +2,7 @@ ghost use Rattle.std.specs.Prelude.{◌≡◌};
 ghost use Rattle.cbc_top.specs.declared.stop.Stop.TheVariants as stop;
 ghost use Rattle.cbc_top.specs.steps.Stops as spec;
 
-use cbc_answers::{Refusal, TextFault};
+use model_text::{Refusal, TextFault};
 use std::alloc::AllocError;
 
 /// Why a run ends without an answer.

@@ -1,19 +1,18 @@
 ghost use Rattle.std.specs.Prelude.{◌≡◌, ◌⊎◌, ℕ, true, ◌<◌, ◌≤◌, ◌^◌, ◌++◌, ◌∷◌, [], length, IfOk};
-ghost use Rattle.linear_models.specs.Language.{is_well_formed};
 ghost use Rattle.cbc_words.specs.Words.{command_of};
 ghost use Rattle.cbc_top.specs.Opening.{HasFailed};
-ghost use Rattle.cbc_answers.specs.Texts.{IsReadable};
+ghost use Rattle.model_text.specs.Asking.{IsLawful};
 ghost use Rattle.cbc_top.specs.Run as spec;
 ghost use Rattle.cbc_top.specs.steps.Due as due;
 ghost use Rattle.cbc_top.specs.steps.Reads as reads;
 
 use crate::model_files::joined;
 use crate::stop::Stop;
-use cbc_answers::{Refusal, Status, checked, model_text, solved};
+use cbc_answers::{Status, checked, solved};
 use cbc_outside::{ReadStop, Sink, Source, read_all, write_all};
 use cbc_words::{Action, WordsFault, command};
 use eb_names::{Bytes, Name, Names};
-use linear_models::LinearModel;
+use model_text::{Asked, Refusal, Wanted, asked_text};
 use std::alloc::{AllocError, Global};
 
 /// A tree file has no more bytes.
@@ -22,31 +21,20 @@ const LONGEST_TREE: u64 = 16 << 20;
 /// What is written, and the status after it.
 type Due = (Bytes, Status);
 
-/// The answers to the queries of a text.
-fn solved_text(alloc: Global, model: Option<LinearModel>, budget: u64) -> Result<Due, AllocError>
-    requires { IsReadable model }
-    ensures lawful { IfOk result (λ d. spec.IsSolved budget model d.0 d.1) }
-    ensures answered { IfOk result (λ d. spec.IsAnswered d.1) }
-{
-    match model {
-        Some(text) => solved(alloc, &text, budget),
-        None => Ok((Bytes::new(alloc), Status::Decided)),
-    }
-}
-
-/// The model of some files.
+/// What the files of a model ask, by so many queries.
 fn model_in<S: Source>(
     alloc: Global,
     src: &mut S,
     names: &[Name],
-) -> Result<Option<LinearModel>, Stop>
+    wanted: Wanted,
+) -> Result<Asked, Stop>
     ensures same { S.files src.new ≡ S.files src.old }
-    ensures read { reads.ReadsModel names.now (S.files src.old) (S.opened src.old) (S.opened src.new) (S.fault_name src.new) result }
-    ensures readable { IfOk result IsReadable }
+    ensures read { reads.ReadsModel wanted names.now (S.files src.old) (S.opened src.old) (S.opened src.new) (S.fault_name src.new) result }
+    ensures lawful { IfOk result IsLawful }
     ensures fault { reads.IsFaultOf result (S.faults src.old) (S.faults src.new) }
 {
     match joined(alloc, src, names) {
-        Ok(text) => Ok(model_text(alloc, text.as_slice())?),
+        Ok(text) => Ok(asked_text(alloc, text.as_slice(), wanted)?),
         Err(ReadStop::TooLong) => Err(Stop::Refused(Refusal::TooLong)),
         Err(ReadStop::Failed) => Err(Stop::ReadFault),
         Err(ReadStop::Memory) => Err(Stop::Memory),
@@ -80,8 +68,8 @@ fn due_at_solve<S: Source>(
     ensures answered { IfOk result (λ d. spec.IsAnswered d.1) }
     ensures fault { reads.IsFaultOf result (S.faults src.old) (S.faults src.new) }
 {
-    let asked = model_in(alloc, src, names.as_slice())?;
-    let due = solved_text(alloc, asked, budget)?;
+    let asked = model_in(alloc, src, names.as_slice(), Wanted::Any)?;
+    let due = solved(alloc, &asked, budget)?;
     Ok(due)
 }
 
@@ -97,15 +85,10 @@ fn due_at_check<S: Source>(
     ensures answered { IfOk result (λ d. spec.IsAnswered d.1) }
     ensures fault { reads.IsFaultOf result (S.faults src.old) (S.faults src.new) }
 {
-    let model = model_in(alloc, src, names.as_slice())?;
-    match model {
-        Some(text) => {
-            let tree = tree_in(alloc, src, tree)?;
-            let due = checked(alloc, &text, tree.as_slice())?;
-            Ok(due)
-        }
-        None => Err(Stop::Refused(Refusal::NotYet)),
-    }
+    let asked = model_in(alloc, src, names.as_slice(), Wanted::One)?;
+    let tree = tree_in(alloc, src, tree)?;
+    let due = checked(alloc, &asked, tree.as_slice())?;
+    Ok(due)
 }
 
 /// What is due at these words.
@@ -143,21 +126,25 @@ fn say<K: Sink>(out: &mut K, bytes: &[u8], status: Status) -> Status
 
 /// Carries out the command that the words say, over the source's files, and writes to the sink.
 ///
-/// `solve FILE..` answers the query of a model: `found` with values of the constants that make
-/// each axiom well-defined and true; `refuted` with a tree that shows that there are none in
-/// the scope; or `undecided` with a tree that leaves boxes open, after as many splits as the budget
-/// allows. A text without units asks nothing, and nothing is written. `check FILE.. TREE` judges a tree, whoever
-/// wrote it, by the model: `accepted`, `partial` with the number of open boxes, or `refused` with the first line
-/// at fault and its cause. Anything else is refused with one line. Of several causes the one that stands first here counts:
+/// `solve FILE..` answers the queries of a model, each with the line `query axioms`, a line `note scoped LABEL IDENT` for each bound
+/// identifier that takes integers of the scope, and one of three answers: `found` with values of the constants that make each axiom
+/// well-defined and true; `refuted` with a tree that shows that there are none in the scope; or `undecided` with a tree that leaves
+/// boxes open, after as many splits as the budget allows. A text without queries asks nothing, and nothing is written.
+/// `check FILE.. TREE` judges a tree, whoever wrote it, by the model and its one query: `accepted`, `partial` with the number of
+/// open boxes, or `refused` with the first line at fault and its cause. Anything else is refused with one line. Of several causes
+/// the one that stands first here counts:
 /// `E14` the words; `E13` model files that are too long; `E1` a model that isn't UTF-8; `E2` with the first byte at which no token
 /// begins; `E4` a formula that is higher than 200; `E3` with the place of a token, or the end, where the tokens are no text; `E12`
 /// with the place of the first word that isn't supported; `E6` with the first name that is declared a second time; `E5`
 /// with the first name that is used without a declaration; `E7` where there are no types for all identifiers, `E8` where
-/// there are several; `E15` a model that isn't of the language that is answered today, or
-/// a tree file that is too long.
+/// there are several; `E9` with the place of the first set that is no value, such as `NAT`, where only a value may stand; `E10` with
+/// the first limit that is passed; `E11` where there are more than 1,000 queries, or for `check` not just one; `E15` what isn't
+/// answered today: a machine, a query that isn't `axioms`, a constant that is no integer, other actions, and a tree file that is too
+/// long.
 ///
 /// The model's files are opened in the order of the words, each once, up to the first that can't be read or with which they
-/// are too long; the tree's file is opened once, and only where the model is one that is answered today. No other file is opened.
+/// are too long; the tree's file is opened once, and only where the model has one query, which is answered today. No other file
+/// is opened.
 /// `ReadFault`: the file that was opened last could not be read; the source has its name, and nothing is written. `WriteFault`: the
 /// output took not all that was due. `Memory`: memory ran out. In each other status no call of the source or the output failed.
 pub fn run<S: Source, K: Sink>(alloc: Global, words: &[Name], src: &mut S, out: &mut K) -> Status

@@ -28,8 +28,10 @@ use Rattle.eb_meaning.specs.Truths as truths
 use Rattle.eb_meaning.specs.Truths.{for_all, exists}
 use Rattle.eb_meaning.specs.Meaning.{Slot, Env, Meaning, meaning, value_of, truth_in, inside, with_set, call_by, over_range, collected, all_values, maplet_of_projection, by_binder}
 use Rattle.eb_meaning.specs.Meaning as means
+use Rattle.narrow_terms.specs.Building as built
+use Rattle.narrow_terms.specs.Building.{whole, extension}
 use Rattle.eb_narrow.specs.Narrow as narrow
-use Rattle.eb_narrow.specs.Narrow.{Narrowed, whole, extension}
+use Rattle.eb_narrow.specs.Narrow.{Narrowed}
 use Rattle.eb_narrow.proofs.Hypotheses.{Laws}
 use Rattle.eb_narrow.proofs.Sights.{seen, of_value}
 use Rattle.eb_narrow.proofs.Shifts.{env_of, variable_is, many_is, over_is, all_is}
@@ -65,10 +67,10 @@ module _ (laws : Laws) (scope : Scope) (refs : List Slot) (bound : List Value) (
     exists_at (Some vs) h = ap exists (map_where (λ v. has_type scope v t) (λ v. truth_in scope (inside (env_of refs bound) v) (p.term (length bound + 1))) (λ v. P.truth (inside (env_of refs bound) v)) vs (h vs refl) body_truth)
 
     for_all_at : (o : Option (List Value)) → ((vs : List Value) → o ≡ Some vs → have_type scope vs t ≡ true)
-        → truths.negation (over_range Undefined (λ vs. exists (map (λ v. truth_in scope (inside (env_of refs bound) v) (narrow.negation (p.term (length bound + 1)))) vs)) o) ≡ over_range Undefined (λ vs. for_all (map (λ v. P.truth (inside (env_of refs bound) v)) vs)) o
+        → truths.negation (over_range Undefined (λ vs. exists (map (λ v. truth_in scope (inside (env_of refs bound) v) (built.negation (p.term (length bound + 1)))) vs)) o) ≡ over_range Undefined (λ vs. for_all (map (λ v. P.truth (inside (env_of refs bound) v)) vs)) o
     for_all_at None h = refl
     for_all_at (Some vs) h =
-        ap (λ ps. truths.negation (exists ps)) (map_where (λ v. has_type scope v t) (λ v. truth_in scope (inside (env_of refs bound) v) (narrow.negation (p.term (length bound + 1)))) (λ v. truths.negation (P.truth (inside (env_of refs bound) v))) vs (h vs refl)
+        ap (λ ps. truths.negation (exists ps)) (map_where (λ v. has_type scope v t) (λ v. truth_in scope (inside (env_of refs bound) v) (built.negation (p.term (length bound + 1)))) (λ v. truths.negation (P.truth (inside (env_of refs bound) v))) vs (h vs refl)
         (λ v k. truth_not scope (inside (env_of refs bound) v) (p.term (length bound + 1)) ∙ ap truths.negation (body_truth v k)))
         ∙ none_fails (λ v. P.truth (inside (env_of refs bound) v)) vs
 
@@ -79,9 +81,9 @@ module _ (laws : Laws) (scope : Scope) (refs : List Slot) (bound : List Value) (
 
     pub for_all_keeps : (ty : Option EbType) → KeepsAs scope refs bound predicate (narrow.by_range binder.ForAll ty bind p) (by_binder binder.ForAll range P)
     for_all_keeps ty =
-        truth_not scope (env_of refs bound) (bind binder.Exists (length bound) (narrow.negation (p.term (length bound + 1))))
-        ∙ (ap truths.negation (ap (λ m. m.truth (env_of refs bound)) (is binder.Exists (narrow.negation (p.term (length bound + 1))))
-        ∙ ap (over_range Undefined (λ vs. exists (map (λ v. truth_in scope (inside (env_of refs bound) v) (narrow.negation (p.term (length bound + 1)))) vs))) alike)
+        truth_not scope (env_of refs bound) (bind binder.Exists (length bound) (built.negation (p.term (length bound + 1))))
+        ∙ (ap truths.negation (ap (λ m. m.truth (env_of refs bound)) (is binder.Exists (built.negation (p.term (length bound + 1))))
+        ∙ ap (over_range Undefined (λ vs. exists (map (λ v. truth_in scope (inside (env_of refs bound) v) (built.negation (p.term (length bound + 1)))) vs))) alike)
         ∙ for_all_at (range (env_of refs bound)) typed)
 
   module _ (u : EbType) (each : (v : Value) → has_type scope v t ≡ true → KeepsAs scope refs (bound ++ v ∷ []) (expression (power u)) p P) where
@@ -164,15 +166,15 @@ module _ (laws : Laws) (scope : Scope) (refs : List Slot) (bound : List Value) w
 value_extension : (scope : Scope) (env : Env) (e : Term) (v : Value) → value_of scope env e ≡ Some v → value_of scope env (extension e) ≡ Some (set (v ∷ []))
 value_extension scope env e v h = ap (λ m. m.value env) (many_is scope many.Extension (e ∷ [])) ∙ ap (λ o. option_map (λ vs. set (sets.set_of vs)) (all_values (o ∷ []))) h
 
-value_pair : (scope : Scope) (env : Env) (a b : Term) (v w : Value) → value_of scope env a ≡ Some v → value_of scope env b ≡ Some w → value_of scope env (narrow.pair a b) ≡ Some (pair v w)
+value_pair : (scope : Scope) (env : Env) (a b : Term) (v w : Value) → value_of scope env a ≡ Some v → value_of scope env b ≡ Some w → value_of scope env (built.pair a b) ≡ Some (pair v w)
 value_pair scope env a b v w p q = value_operation scope env op.MapsTo a b ∙ ap₂ (λ x y. means.with_two (means.value_by op.MapsTo) x y) p q
 
 module _ (laws : Laws) (scope : Scope) (refs : List Slot) (bound : List Value) where
   identity_seen : (t : EbType) → seen (env_of refs bound) (meaning scope (narrow.identity t (length bound))) ≡ of_value (Some (set (sets.set_of (map (λ x. pair x x) (vals scope t)))))
   identity_seen t =
       let variable : Term = whole (length bound) t in
-      ap (seen (env_of refs bound)) (all_is scope binder.Collect t (extension (narrow.pair variable variable)))
-      ∙ ap of_value (ap (λ g. collected (map g (vals scope t))) (fun_ext (λ v. value_extension scope (inside (env_of refs bound) v) (narrow.pair variable variable) (pair v v)
+      ap (seen (env_of refs bound)) (all_is scope binder.Collect t (extension (built.pair variable variable)))
+      ∙ ap of_value (ap (λ g. collected (map g (vals scope t))) (fun_ext (λ v. value_extension scope (inside (env_of refs bound) v) (built.pair variable variable) (pair v v)
       (value_pair scope (inside (env_of refs bound) v) variable variable v v (value_whole scope refs bound v t) (value_whole scope refs bound v t))))
       ∙ (collected_sets (λ v. pair v v ∷ []) (vals scope t) ∙ ap (λ xs. Some (set (sets.set_of xs))) (flat_map_one (λ v. pair v v) (vals scope t))))
 
@@ -183,9 +185,9 @@ module _ (laws : Laws) (scope : Scope) (refs : List Slot) (bound : List Value) w
 -- ---- prj1 and prj2
 
 chosen_value : (scope : Scope) (env : Env) (s : Side) (x y : Term) (v w : Value) → value_of scope env x ≡ Some v → value_of scope env y ≡ Some w
-    → value_of scope env (narrow.pair (narrow.pair x y) (narrow.chosen s x y)) ≡ Some (maplet_of_projection s v w)
-chosen_value scope env side.First x y v w p q = value_pair scope env (narrow.pair x y) x (pair v w) v (value_pair scope env x y v w p q) p
-chosen_value scope env side.Second x y v w p q = value_pair scope env (narrow.pair x y) y (pair v w) w (value_pair scope env x y v w p q) q
+    → value_of scope env (built.pair (built.pair x y) (narrow.chosen s x y)) ≡ Some (maplet_of_projection s v w)
+chosen_value scope env side.First x y v w p q = value_pair scope env (built.pair x y) x (pair v w) v (value_pair scope env x y v w p q) p
+chosen_value scope env side.Second x y v w p q = value_pair scope env (built.pair x y) y (pair v w) w (value_pair scope env x y v w p q) q
 
 at_middle : (vs : List Value) (v w : Value) → slice_get ((vs ++ v ∷ []) ++ w ∷ []) (length vs) ≡ Some v
 at_middle [] v w = refl
@@ -229,7 +231,7 @@ module _ (laws : Laws) (scope : Scope) (refs : List Slot) (bound : List Value) (
   seconds = whole (length bound + 1) b
 
   abbrev both_parts : Term
-  both_parts = extension (narrow.pair (narrow.pair firsts seconds) (narrow.chosen s firsts seconds))
+  both_parts = extension (built.pair (built.pair firsts seconds) (narrow.chosen s firsts seconds))
 
   abbrev rows : Value → List Value
   rows v = map (maplet_of_projection s v) (vals scope b)
@@ -240,7 +242,7 @@ module _ (laws : Laws) (scope : Scope) (refs : List Slot) (bound : List Value) (
   row : (v : Value) → value_of scope (inside (env_of refs bound) v) (term.all binder.Collect b both_parts) ≡ Some (set (sets.set_of (rows v)))
   row v =
       ap (λ m. m.value (inside (env_of refs bound) v)) (all_is scope binder.Collect b both_parts)
-      ∙ (ap (λ g. collected (map g (vals scope b))) (fun_ext (λ w. value_extension scope (env_of refs ((bound ++ v ∷ []) ++ w ∷ [])) (narrow.pair (narrow.pair firsts seconds) (narrow.chosen s firsts seconds)) (maplet_of_projection s v w)
+      ∙ (ap (λ g. collected (map g (vals scope b))) (fun_ext (λ w. value_extension scope (env_of refs ((bound ++ v ∷ []) ++ w ∷ [])) (built.pair (built.pair firsts seconds) (narrow.chosen s firsts seconds)) (maplet_of_projection s v w)
       (chosen_value scope (env_of refs ((bound ++ v ∷ []) ++ w ∷ [])) s firsts seconds v w (value_outer scope refs bound v w a) (second_value v w))))
       ∙ (collected_sets (λ w. maplet_of_projection s v w ∷ []) (vals scope b) ∙ ap (λ xs. Some (set (sets.set_of xs))) (flat_map_one (maplet_of_projection s v) (vals scope b))))
 

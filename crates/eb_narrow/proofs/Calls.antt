@@ -25,8 +25,10 @@ use Rattle.eb_meaning.specs.Truths as truths
 use Rattle.eb_meaning.specs.Truths.{truth_of, tested}
 use Rattle.eb_meaning.specs.Meaning.{Slot, Env, Meaning, meaning, value_of, truth_in, with_two, with_ints, with_set, with_sets, set_in, set_by, int_by, test_by, value_by, where_given, is_value, has_value, is_value_of}
 use Rattle.eb_meaning.specs.Meaning as means
+use Rattle.narrow_terms.specs.Building as built
+use Rattle.narrow_terms.specs.Building.{operation}
 use Rattle.eb_narrow.specs.Narrow as narrow
-use Rattle.eb_narrow.specs.Narrow.{Narrowed, operation}
+use Rattle.eb_narrow.specs.Narrow.{Narrowed}
 use Rattle.eb_narrow.proofs.Hypotheses.{Laws}
 use Rattle.eb_narrow.proofs.Sights.{Sight, seen, of_value}
 use Rattle.eb_narrow.proofs.Shifts.{env_of, unary_is, binary_is}
@@ -51,7 +53,7 @@ module _ (laws : Laws) (scope : Scope) (refs : List Slot) (bound : List Value) w
   abbrev Right : EbType → Narrowed → Sight → Type 0
   Right = Represents scope refs bound
 
-  negated : (p : Term) (t : Truth3) → truth_in scope env p ≡ t → truth_in scope env (narrow.negation p) ≡ truths.negation t
+  negated : (p : Term) (t : Truth3) → truth_in scope env p ≡ t → truth_in scope env (built.negation p) ≡ truths.negation t
   negated p t h = truth_not scope env p ∙ ap truths.negation h
 
   -- ---- operators on one part

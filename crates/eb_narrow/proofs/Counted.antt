@@ -28,13 +28,15 @@ use Rattle.eb_term.specs.declared.term.Term.{Term}
 use Rattle.eb_term.specs.declared.term.Head.{the_lemmas}
 use Rattle.eb_term.specs.Terms as term
 use Rattle.eb_meaning.specs.Meaning.{is_product, is_arrow, is_total, is_surjective, is_function, is_injection}
+use Rattle.narrow_terms.specs.Shifting.{shift}
+use Rattle.narrow_terms.specs.Building as built
+use Rattle.narrow_terms.specs.Building.{operation, negation, both, both_on, both_of, equal, at_most, part, domain, range, inverse, functional, is_defined, whole, empty_set, union_on, are_apart}
 use Rattle.eb_narrow.specs.declared.counts.Linear.{Linear}
 use Rattle.eb_narrow.specs.declared.counts.Counts.{Counts}
 use Rattle.eb_narrow.specs.declared.counts.Parts.TheVariants as parts
-use Rattle.eb_narrow.specs.Shifting.{shift}
 use Rattle.eb_narrow.specs.Types.{type_by_unary, type_by_binary, type_by_many, type_by_binder, type_step}
 use Rattle.eb_narrow.specs.Narrow as narrow
-use Rattle.eb_narrow.specs.Narrow.{Narrowed, narrowed, operation, negation, both, both_on, both_of, equal, at_most, part, domain, range, inverse, functional, is_defined, whole, empty_set, union_on, are_apart, set_type}
+use Rattle.eb_narrow.specs.Narrow.{Narrowed, narrowed, set_type}
 use Rattle.eb_narrow.specs.steps.Counting as count
 use Rattle.eb_narrow.specs.steps.Counting.{nodes}
 use Rattle.eb_narrow.proofs.TermInduction.{ind_term}
@@ -117,8 +119,8 @@ counted_infinite infinite.Integers = record {
   has_members = defined;
   is_all = never_counts (λ d. []) 0 (λ d. refl);
 }
-counted_infinite infinite.Naturals = counted_form (Some (power integer)) (λ d. []) (λ d x e. narrow.infinite_has infinite.Naturals e) 0 (count.linear 2 1) (λ d. refl) (least _ (Nodes.nodes-literal _ _))
-counted_infinite infinite.PositiveNaturals = counted_form (Some (power integer)) (λ d. []) (λ d x e. narrow.infinite_has infinite.PositiveNaturals e) 0 (count.linear 2 1) (λ d. refl) (least _ (Nodes.nodes-literal _ _))
+counted_infinite infinite.Naturals = counted_form (Some (power integer)) (λ d. []) (λ d x e. built.infinite_has infinite.Naturals e) 0 (count.linear 2 1) (λ d. refl) (least _ (Nodes.nodes-literal _ _))
+counted_infinite infinite.PositiveNaturals = counted_form (Some (power integer)) (λ d. []) (λ d x e. built.infinite_has infinite.PositiveNaturals e) 0 (count.linear 2 1) (λ d. refl) (least _ (Nodes.nodes-literal _ _))
 
 -- ---- unary operators
 
@@ -234,11 +236,11 @@ module _ (ty : Option EbType) (a b : Narrowed) (c k : Counts) (h : Counted a c) 
   both_values d = let all = Nodes.given-append (a.values d) (b.values d) in let left = h.given d in let right = g.given d in omega arith
 
   proper_at : (p q : Bool) (d : ℕ) → p ≡ q
-      → nodes (if p then b.has_members d 0 (a.term d) else narrow.conjunction (narrow.subset (a.term d) (b.term d)) (negation (equal (a.term d) (b.term d))))
+      → nodes (if p then b.has_members d 0 (a.term d) else built.conjunction (built.subset (a.term d) (b.term d)) (negation (equal (a.term d) (b.term d))))
       ≡ (if q then count.at sum k.has_members c.term else sum (4 ∷ c.term ∷ c.term ∷ k.term ∷ k.term ∷ []))
   proper_at true true d e = asked b.has_members k.has_members g.has_members d
   proper_at false false d e =
-      let whole = Nodes.nodes-operation op.And (narrow.subset (a.term d) (b.term d)) (negation (equal (a.term d) (b.term d))) in
+      let whole = Nodes.nodes-operation op.And (built.subset (a.term d) (b.term d)) (negation (equal (a.term d) (b.term d))) in
       let outer = Nodes.nodes-not (equal (a.term d) (b.term d)) in
       let within = two (binary.Operator op.SubsetOf) d in
       let same = two (binary.Operator op.Equal) d in
@@ -374,7 +376,7 @@ partition_one ty s = let whole = Nodes.nodes-operation op.Equal s (empty_set ty)
 partition_more : (whole s t u P U Q n : ℕ) → n ≡ whole + Q → whole ≡ suc (s + u) → u ≡ U → P + t ≡ (sum (1 ∷ s ∷ t ∷ []) + U) + Q → n ≡ P
 partition_more whole s t u P U Q n a b c h = omega arith
 
-partition_nodes : (ty : EbType) (ts : List Term) → nodes (narrow.partition ty ts) ≡ count.partition sum (map nodes ts)
+partition_nodes : (ty : EbType) (ts : List Term) → nodes (built.partition ty ts) ≡ count.partition sum (map nodes ts)
 partition_nodes ty [] = Nodes.nodes-truth false
 partition_nodes ty (s ∷ []) = partition_one ty s
 partition_nodes ty (s ∷ t ∷ ts) =
@@ -397,7 +399,7 @@ counted_many ty ts h many.Extension = counted_expression ty (λ d. term.many man
     let whole = Nodes.nodes-many many.Extension us in
     let parts : Nodes.nodes_in us ≡ sum (map (λ c. c.term) (map (count.counted sum) ts)) = in_sum us ∙ ap sum (each_nodes ts d h) in
     omega arith))
-counted_many ty ts h many.Partition = counted_expression None (λ d. narrow.partition (set_type (map narrowed ts)) (map (λ e. e.term d) (map narrowed ts))) _
+counted_many ty ts h many.Partition = counted_expression None (λ d. built.partition (set_type (map narrowed ts)) (map (λ e. e.term d) (map narrowed ts))) _
     (λ d. partition_nodes (set_type (map narrowed ts)) (map (λ e. e.term d) (map narrowed ts)) ∙ ap (count.partition sum) (each_nodes ts d h))
 
 counted_range : (ty : Option EbType) (bind : Binder → ℕ → Term → Term) (p : Narrowed) (c : Counts) (r : ℕ) → ((k : Binder) (d : ℕ) (q : Term) → nodes (bind k d q) ≡ suc (r + nodes q))
@@ -415,8 +417,8 @@ counted_range ty bind p c r is h binder.Collect = counted_expression ty (λ d. b
 
 identity_nodes : (ty : EbType) (d : ℕ) → nodes (narrow.identity ty d) ≡ 5
 identity_nodes ty d =
-    let outer = Nodes.nodes-all binder.Collect ty (narrow.extension (narrow.pair (whole d ty) (whole d ty))) in
-    let set = Nodes.nodes-many many.Extension (narrow.pair (whole d ty) (whole d ty) ∷ []) in
+    let outer = Nodes.nodes-all binder.Collect ty (built.extension (built.pair (whole d ty) (whole d ty))) in
+    let set = Nodes.nodes-many many.Extension (built.pair (whole d ty) (whole d ty) ∷ []) in
     let pair = Nodes.nodes-operation op.MapsTo (whole d ty) (whole d ty) in
     let member = Nodes.nodes-whole d ty in
     omega arith
@@ -427,12 +429,12 @@ chosen_nodes side.Second d a b = Nodes.nodes-whole (d + 1) b
 
 projection_nodes : (s : Side) (a b : EbType) (d : ℕ) → nodes (narrow.projection s a b d) ≡ 8
 projection_nodes s a b d =
-    let inner = narrow.pair (whole d a) (whole (d + 1) b) in
+    let inner = built.pair (whole d a) (whole (d + 1) b) in
     let chosen = narrow.chosen s (whole d a) (whole (d + 1) b) in
-    let set = narrow.extension (narrow.pair inner chosen) in
+    let set = built.extension (built.pair inner chosen) in
     let outer = Nodes.nodes-all binder.Collect a (term.all binder.Collect b set) in
     let second = Nodes.nodes-all binder.Collect b set in
-    let one = Nodes.nodes-many many.Extension (narrow.pair inner chosen ∷ []) in
+    let one = Nodes.nodes-many many.Extension (built.pair inner chosen ∷ []) in
     let maplet = Nodes.nodes-operation op.MapsTo inner chosen in
     let pair = Nodes.nodes-operation op.MapsTo (whole d a) (whole (d + 1) b) in
     let left = Nodes.nodes-whole d a in

@@ -21,9 +21,11 @@ use Rattle.eb_meaning.specs.Truths.{truth_of, tested}
 use Rattle.eb_meaning.specs.Arithmetic.{int_of, interval}
 use Rattle.eb_meaning.specs.Meaning.{Slot, Env, Meaning, meaning, value_of, truth_in, with_two, with_ints, test_by, value_by, where_given, is_value, has_value, is_value_of, part_of, is_set, is_empty, is_nonempty_set, maplet_passes, int_passes}
 use Rattle.eb_meaning.specs.Meaning as means
+use Rattle.narrow_terms.specs.Shifting.{shift}
+use Rattle.narrow_terms.specs.Building as built
+use Rattle.narrow_terms.specs.Building.{negation, both, equal, at_most, empty_set}
 use Rattle.eb_narrow.specs.Narrow as narrow
-use Rattle.eb_narrow.specs.Narrow.{Narrowed, negation, both, equal, at_most, part, is_defined, empty_set}
-use Rattle.eb_narrow.specs.Shifting.{shift}
+use Rattle.eb_narrow.specs.Narrow.{Narrowed}
 use Rattle.eb_narrow.proofs.Hypotheses.{Laws}
 use Rattle.eb_narrow.proofs.Sights.{Sight, seen, of_value}
 use Rattle.eb_narrow.proofs.Shifts.{env_of, binary_is}
@@ -119,7 +121,7 @@ all_ints laws scope (v ∷ vs) h = both_so (means.infinite_has infinite.Integers
 
 module _ (laws : Laws) (scope : Scope) (refs : List Slot) (bound : List Value) where
   infinite_each : (i : Infinite) (more : List Value) (e : Term) → MayBeIn scope (power integer) (value_of scope (env_of refs (bound ++ more)) e)
-      → truth_in scope (env_of refs (bound ++ more)) (narrow.infinite_has i e) ≡ where_given true (means.infinite_has i) (value_of scope (env_of refs (bound ++ more)) e)
+      → truth_in scope (env_of refs (bound ++ more)) (built.infinite_has i e) ≡ where_given true (means.infinite_has i) (value_of scope (env_of refs (bound ++ more)) e)
   infinite_each infinite.Integers more e k =
       truth_is_defined laws scope (env_of refs (bound ++ more)) e
       ∙ defined_test scope integer (means.infinite_has infinite.Integers) (value_of scope (env_of refs (bound ++ more)) e) (is_of_members scope integer (value_of scope (env_of refs (bound ++ more)) e) k) (any_int laws scope)
@@ -132,8 +134,8 @@ module _ (laws : Laws) (scope : Scope) (refs : List Slot) (bound : List Value) w
       ∙ (ap (λ b. tested (with_two (test_by op.AtMost) b (value_of scope (env_of refs (bound ++ more)) e))) (value_literal scope (env_of refs (bound ++ more)) (int (pos 1)) integer)
       ∙ least_test laws scope (pos 1) (value_of scope (env_of refs (bound ++ more)) e) (is_of_members scope integer (value_of scope (env_of refs (bound ++ more)) e) k))
 
-  infinite_form : (i : Infinite) → Represents scope refs bound (power integer) (narrow.form (Some (power integer)) (λ d. []) (λ d x e. narrow.infinite_has i e)) (of_form true (means.infinite_has i))
-  infinite_form i = form_represents laws scope refs bound integer (Some (power integer)) (λ d. []) (λ d x e. narrow.infinite_has i e) true (means.infinite_has i) refl (infinite_each i)
+  infinite_form : (i : Infinite) → Represents scope refs bound (power integer) (narrow.form (Some (power integer)) (λ d. []) (λ d x e. built.infinite_has i e)) (of_form true (means.infinite_has i))
+  infinite_form i = form_represents laws scope refs bound integer (Some (power integer)) (λ d. []) (λ d x e. built.infinite_has i e) true (means.infinite_has i) refl (infinite_each i)
 
   pub infinite_represents : (i : Infinite) → Represents scope refs bound (power integer) (narrow.infinite_set i) (of_form true (means.infinite_has i))
   infinite_represents infinite.Integers = let r = infinite_form infinite.Integers in record {
@@ -178,7 +180,7 @@ module _ (laws : Laws) (scope : Scope) (refs : List Slot) (bound : List Value) (
   pub interval_represents : (o : Slot) → o ≡ with_two (value_by op.UpTo) A.value B.value → Fits scope (power integer) o → Represents scope refs bound (power integer) (narrow.interval ty a b) (of_value o)
   interval_represents o e f =
       let d : ℕ = length bound in
-      let t : ℕ → Term = λ d. narrow.operation op.UpTo (a.term d) (b.term d) in
+      let t : ℕ → Term = λ d. built.operation op.UpTo (a.term d) (b.term d) in
       let r = plain_represents scope refs bound ty t o (power integer) f (ap (seen (env_of refs bound)) (binary_is scope (binary.Operator op.UpTo) (a.term d) (b.term d)) ∙ ap of_value (ap₂ (λ x y. with_two (value_by op.UpTo) x y) first.value second.value ∙ sym e)) in record {
         value = r.value;
         fits = r.fits;

@@ -16,7 +16,6 @@ mod TermInduction
 mod Truths
 mod TypeLaws
 mod Views
-mod Copies
 mod NarrowAt
 mod NarrowKinds
 mod Capped

@@ -20,19 +20,20 @@ use Rattle.eb_term.specs.declared.term.Head.{the_lemmas}
 use Rattle.eb_term.specs.declared.term.Head.TheVariants as head
 use Rattle.eb_term.specs.Terms as term
 use Rattle.eb_meaning.specs.Meaning.{is_total, is_surjective, is_function, is_injection}
+use Rattle.narrow_terms.specs.Shifting.{shift}
+use Rattle.narrow_terms.specs.Building as built
+use Rattle.narrow_terms.specs.Building.{operation, both, both_of, at_most, whole, is_defined, no_value}
 use Rattle.eb_narrow.specs.declared.kinds.UnaryKind.{UnaryKind}
 use Rattle.eb_narrow.specs.declared.kinds.UnaryKind.TheVariants as kind
 use Rattle.eb_narrow.specs.declared.kinds.BinaryKind.{BinaryKind}
 use Rattle.eb_narrow.specs.declared.kinds.BinaryKind.TheVariants as of
 use Rattle.eb_narrow.specs.declared.kinds.Question.{Question}
 use Rattle.eb_narrow.specs.Types.{type_of}
-use Rattle.eb_narrow.specs.Shifting.{shift}
 use Rattle.eb_narrow.specs.Narrow as narrow
-use Rattle.eb_narrow.specs.Narrow.{Narrowed, narrowed, expression, predicate, operation, both, both_of, at_most, whole, is_defined, no_value, by_many, partition, set_type, infinite_set}
+use Rattle.eb_narrow.specs.Narrow.{Narrowed, narrowed, expression, predicate, by_many, set_type, infinite_set}
 use Rattle.eb_narrow.specs.steps.Kinds.{unary_kind, binary_kind, kind_with, as_unary, as_binary, asked, said, one_part, two_parts, is_form_kind, beyond}
 use Rattle.eb_narrow.specs.steps.Letters as letters
 use Rattle.eb_narrow.specs.steps.Narrowing as step
-use Rattle.eb_narrow.specs.steps.Partition.{first_type}
 use Rattle.eb_narrow.proofs.TermInduction.{ind_term}
 use Rattle.eb_narrow.proofs.NarrowAt as at
 use Rattle.eb_narrow.proofs.ByKinds.{unary_of, binary_of}
@@ -102,15 +103,15 @@ union_is a s ty d p q =
     ap₂ (λ s ty. term.over binder.Collect s (whole d ty)) p q
     ∙ ap (λ ty. term.over binder.Collect ((narrowed a).term d) (whole d (narrow.element_type ty))) (sym (at.same_type a))
 
-pub first_type_is : (ts : List Term) → first_type ts ≡ set_type (map narrowed ts)
+pub first_type_is : (ts : List Term) → step.first_type ts ≡ set_type (map narrowed ts)
 first_type_is [] = refl
 first_type_is (t ∷ ts) = ap (λ ty. unwrap_or ty boolean) (sym (at.same_type t))
 
 pub nonempty_is : (a all : Term) (ty : EbType) (d x : ℕ) (e : Term) → all ≡ (narrowed a).has_members d x e → ty ≡ unwrap_or (type_of a) boolean
-    → both all (narrow.negation (narrow.equal e (narrow.empty_set ty))) ≡ (narrow.nonempty_power_set None (narrowed a)).has d x e
+    → both all (built.negation (built.equal e (built.empty_set ty))) ≡ (narrow.nonempty_power_set None (narrowed a)).has d x e
 nonempty_is a all ty d x e p q =
-    ap₂ (λ all ty. both all (narrow.negation (narrow.equal e (narrow.empty_set ty)))) p q
-    ∙ ap (λ ty. both ((narrowed a).has_members d x e) (narrow.negation (narrow.equal e (narrow.empty_set (narrow.type_or_any ty))))) (sym (at.same_type a))
+    ap₂ (λ all ty. both all (built.negation (built.equal e (built.empty_set ty)))) p q
+    ∙ ap (λ ty. both ((narrowed a).has_members d x e) (built.negation (built.equal e (built.empty_set (narrow.type_or_any ty))))) (sym (at.same_type a))
 
 -- an expression or a predicate: it has what is a member of it
 abbrev pub Plain : Narrowed → Type 0
@@ -144,16 +145,16 @@ nonempty_has t a o d x e p q = sym (ap (λ n. n.has d x e) (unary_of t a o kind.
 
 pub arrow_has : (t a b : Term) (o : Binary) (arrow : Operator) (d x : ℕ) (e from to : Term) → t.head ≡ head.Binary o a b
     → kind_with (binary_kind o) ((narrowed a).is_form || (narrowed b).is_form) ≡ of.Arrow arrow
-    → from ≡ narrow.covers (is_total arrow) (narrowed a) d x (narrow.domain e)
-    → to ≡ narrow.covers (is_surjective arrow) (narrowed b) d x (narrow.range e)
-    → both_of (from ∷ to ∷ (narrow.if_asked (is_function arrow) (narrow.functional e) ++ narrow.if_asked (is_injection arrow) (narrow.functional (narrow.inverse e)))) ≡ (narrowed t).has d x e
+    → from ≡ narrow.covers (is_total arrow) (narrowed a) d x (built.domain e)
+    → to ≡ narrow.covers (is_surjective arrow) (narrowed b) d x (built.range e)
+    → both_of (from ∷ to ∷ (narrow.if_asked (is_function arrow) (built.functional e) ++ narrow.if_asked (is_injection arrow) (built.functional (built.inverse e)))) ≡ (narrowed t).has d x e
 arrow_has t a b o arrow d x e from to p q h k =
-    ap₂ (λ from to. both_of (from ∷ to ∷ (narrow.if_asked (is_function arrow) (narrow.functional e) ++ narrow.if_asked (is_injection arrow) (narrow.functional (narrow.inverse e))))) h k
+    ap₂ (λ from to. both_of (from ∷ to ∷ (narrow.if_asked (is_function arrow) (built.functional e) ++ narrow.if_asked (is_injection arrow) (built.functional (built.inverse e))))) h k
     ∙ sym (ap (λ n. n.has d x e) (binary_of t a b o (of.Arrow arrow) p q))
 
 pub product_has : (t a b : Term) (o : Binary) (d x : ℕ) (e first second : Term) → t.head ≡ head.Binary o a b
     → kind_with (binary_kind o) ((narrowed a).is_form || (narrowed b).is_form) ≡ of.Product
-    → first ≡ (narrowed a).has d x (narrow.part side.First e) → second ≡ (narrowed b).has d x (narrow.part side.Second e)
+    → first ≡ (narrowed a).has d x (built.part side.First e) → second ≡ (narrowed b).has d x (built.part side.Second e)
     → both first second ≡ (narrowed t).has d x e
 product_has t a b o d x e first second p q h k = ap₂ both h k ∙ sym (ap (λ n. n.has d x e) (binary_of t a b o of.Product p q))
 
@@ -163,7 +164,7 @@ pub interval_has : (t a b : Term) (o : Binary) (d x : ℕ) (e low high : Term) �
     → both (at_most low e) (at_most e high) ≡ (narrowed t).has d x e
 interval_has t a b o d x e low high p q h k = ap₂ (λ low high. both (at_most low e) (at_most e high)) h k ∙ sym (ap (λ n. n.has d x e) (binary_of t a b o of.Interval p q))
 
-pub infinite_has : (t : Term) (i : Infinite) (d x : ℕ) (e : Term) → t.head ≡ head.Infinite i → narrow.infinite_has i e ≡ (narrowed t).has d x e
+pub infinite_has : (t : Term) (i : Infinite) (d x : ℕ) (e : Term) → t.head ≡ head.Infinite i → built.infinite_has i e ≡ (narrowed t).has d x e
 infinite_has t i d x e p = search (rules, fold_out-Term, the_lemmas, p)
 
 -- ---- other heads

@@ -21,9 +21,9 @@ use Rattle.eb_term.specs.declared.term.Head.{the_lemmas}
 use Rattle.eb_term.specs.declared.term.Head.TheVariants as head
 use Rattle.eb_term.specs.Terms as term
 use Rattle.eb_meaning.specs.Meaning.{is_product, is_arrow}
+use Rattle.narrow_terms.specs.Building.{partition}
 use Rattle.eb_narrow.specs.Types.{type_of, type_by_unary, type_by_binary, type_by_many, type_by_binder}
-use Rattle.eb_narrow.specs.Shifting.{shift}
-use Rattle.eb_narrow.specs.Narrow.{Narrowed, narrowed, by_unary, by_call, by_operator, by_binary, by_relation, by_many, by_range, arrow_form, product_form, predicate, both, at_most, partition, set_type}
+use Rattle.eb_narrow.specs.Narrow.{Narrowed, narrowed, by_unary, by_call, by_operator, by_binary, by_relation, by_many, by_range, product_form, set_type}
 use Rattle.eb_narrow.specs.steps.Narrowing as step
 use Rattle.eb_narrow.proofs.TermInduction.{ind_term}
 

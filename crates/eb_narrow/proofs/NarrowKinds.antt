@@ -24,9 +24,10 @@ use Rattle.eb_term.specs.declared.term.Head.{the_lemmas}
 use Rattle.eb_term.specs.declared.term.Head.TheVariants as head
 use Rattle.eb_term.specs.Terms as term
 use Rattle.eb_meaning.specs.Meaning.{is_product, is_arrow}
-use Rattle.eb_narrow.specs.Shifting.{shift}
+use Rattle.narrow_terms.specs.Shifting.{shift}
+use Rattle.narrow_terms.specs.Building.{operation, is_defined, negation, both, both_on, both_of}
 use Rattle.eb_narrow.specs.Types.{type_of, type_by_unary, type_by_binary, type_by_many, type_by_binder}
-use Rattle.eb_narrow.specs.Narrow.{Narrowed, narrowed, operation, expression, predicate, form, infinite_set, each_member, no_set_is_all, by_unary, by_call, by_operator, by_binary, by_relation, by_many, by_range, product_form, is_defined, negation, element_type, both, both_on, both_of, arrow_form, identity, projection}
+use Rattle.eb_narrow.specs.Narrow.{Narrowed, narrowed, expression, predicate, form, infinite_set, each_member, no_set_is_all, by_unary, by_call, by_binary, by_relation, by_many, by_range, product_form, element_type, arrow_form, identity, projection}
 use Rattle.eb_narrow.specs.steps.Narrowing as step
 use Rattle.eb_narrow.proofs.TermInduction.{ind_term}
 use Rattle.eb_narrow.proofs.NarrowAt as at

@@ -16,8 +16,8 @@ use Rattle.eb_term.specs.declared.term.Head.{the_lemmas}
 use Rattle.eb_term.specs.Terms as term
 use Rattle.eb_term.specs.Terms.{by_parts}
 use Rattle.eb_term.specs.Nodes.{Listed, listed_step, subterms}
-use Rattle.eb_narrow.specs.Shifting.{shift}
-use Rattle.eb_narrow.specs.Narrow.{operation, negation, both, both_on, both_of, is_defined, whole, no_value, empty_set}
+use Rattle.narrow_terms.specs.Shifting.{shift}
+use Rattle.narrow_terms.specs.Building.{operation, negation, both, both_on, both_of, is_defined, whole, no_value, empty_set}
 use Rattle.eb_narrow.specs.steps.Counting.{nodes}
 use Rattle.eb_narrow.proofs.TermInduction.{ind_term}
 use Rattle.eb_narrow.proofs.Shifts as shifts

@@ -21,8 +21,10 @@ use Rattle.eb_meaning.specs.Truths.{truth_of, tested}
 use Rattle.eb_meaning.specs.Arithmetic.{int_of}
 use Rattle.eb_meaning.specs.Meaning.{Slot, Env, Meaning, meaning, value_of, truth_in, with_two, with_ints, with_set, with_sets, set_in, set_by, int_by, test_by, value_by, where_given, is_value, has_value, is_value_of}
 use Rattle.eb_meaning.specs.Meaning as means
+use Rattle.narrow_terms.specs.Building as built
+use Rattle.narrow_terms.specs.Building.{operation}
 use Rattle.eb_narrow.specs.Narrow as narrow
-use Rattle.eb_narrow.specs.Narrow.{Narrowed, operation}
+use Rattle.eb_narrow.specs.Narrow.{Narrowed}
 use Rattle.eb_narrow.proofs.Hypotheses.{Laws}
 use Rattle.eb_narrow.proofs.Sights.{Sight, seen, of_value, fixed}
 use Rattle.eb_narrow.proofs.Shifts.{env_of, binary_is}
@@ -177,16 +179,16 @@ module _ (laws : Laws) (scope : Scope) (refs : List Slot) (bound : List Value) w
   subset_keeps u a b A B l r = within_here u b B r (a.term (length bound)) (subst (Fits scope u) (sym l.value) l.fits) ∙ ap (where_given B.is_given (λ v. list_all B.has (members v))) l.value
 
   proper_subset_if : (u : EbType) (a b : Narrowed) (A B : Sight) → Right u a A → Right u b B → (x : Bool) → b.is_form ≡ x
-      → truth_in scope env (if x then b.has_members (length bound) 0 (a.term (length bound)) else narrow.conjunction (narrow.subset (a.term (length bound)) (b.term (length bound))) (narrow.negation (narrow.equal (a.term (length bound)) (b.term (length bound)))))
+      → truth_in scope env (if x then b.has_members (length bound) 0 (a.term (length bound)) else built.conjunction (built.subset (a.term (length bound)) (b.term (length bound))) (built.negation (built.equal (a.term (length bound)) (b.term (length bound)))))
       ≡ where_given B.is_given (λ v. list_all B.has (members v) && not (is_value_of B.value v)) A.value
   proper_subset_if u a b A B l r true e = subset_keeps u a b A B l r ∙ within_form B.is_given (λ v. list_all B.has (members v)) B.value A.value (r.formless e)
   proper_subset_if u a b A B l r false e =
       let s : Term = a.term (length bound) in
       let t : Term = b.term (length bound) in
-      truth_operation scope env op.And (narrow.subset s t) (narrow.negation (narrow.equal s t))
+      truth_operation scope env op.And (built.subset s t) (built.negation (built.equal s t))
       ∙ (ap₂ truths.conjunction
       (truth_operation scope env op.SubsetOf s t ∙ ap₂ (λ (x : Sight) a. where_given x.is_given (λ v. list_all x.has (members v)) a) (r.plain e).0 l.value)
-      (truth_not scope env (narrow.equal s t) ∙ ap truths.negation (truth_equal scope env s t ∙ ap₂ (λ a b. tested (with_two (test_by op.Equal) a b)) l.value r.value))
+      (truth_not scope env (built.equal s t) ∙ ap truths.negation (truth_equal scope env s t ∙ ap₂ (λ a b. tested (with_two (test_by op.Equal) a b)) l.value r.value))
       ∙ (proper_by A.value B.value ∙ ap (λ (x : Sight). where_given x.is_given (λ v. list_all x.has (members v) && not (is_value_of B.value v)) A.value) (sym (r.plain e).1)))
 
   proper_subset_keeps : (u : EbType) (a b : Narrowed) (A B : Sight) → Right u a A → Right u b B
@@ -199,7 +201,7 @@ module _ (laws : Laws) (scope : Scope) (refs : List Slot) (bound : List Value) w
       → truth_in scope env (operation o a b) ≡ tested (with_two (test_by o) x y)
   compared_keeps o a b x y h p q = h ∙ ap₂ (λ x y. tested (with_two (test_by o) x y)) p q
 
-  negated : (p : Term) (t : Truth3) → truth_in scope env p ≡ t → truth_in scope env (narrow.negation p) ≡ truths.negation t
+  negated : (p : Term) (t : Truth3) → truth_in scope env p ≡ t → truth_in scope env (built.negation p) ≡ truths.negation t
   negated p t h = truth_not scope env p ∙ ap truths.negation h
 
   -- ---- operations
@@ -268,9 +270,9 @@ module _ (laws : Laws) (scope : Scope) (refs : List Slot) (bound : List Value) w
   operator_keeps op.Implies v ty a b A B l r f = truth_operation scope env op.Implies (a.term (length bound)) (b.term (length bound)) ∙ ap₂ truths.implication l r
   operator_keeps op.Equivalent v ty a b A B l r f = truth_operation scope env op.Equivalent (a.term (length bound)) (b.term (length bound)) ∙ ap₂ truths.equivalence l r
   operator_keeps op.Equal v ty a b A B l r f = compared_keeps op.Equal (a.term (length bound)) (b.term (length bound)) (A.value env) (B.value env) (truth_equal scope env (a.term (length bound)) (b.term (length bound))) l.value r.value
-  operator_keeps op.Unequal v ty a b A B l r f = negated (narrow.equal (a.term (length bound)) (b.term (length bound))) (tested (with_two (test_by op.Equal) (A.value env) (B.value env))) (compared_keeps op.Equal (a.term (length bound)) (b.term (length bound)) (A.value env) (B.value env) (truth_equal scope env (a.term (length bound)) (b.term (length bound))) l.value r.value) ∙ unequal_by (A.value env) (B.value env)
-  operator_keeps op.Less v ty a b A B l r f = negated (narrow.at_most (b.term (length bound)) (a.term (length bound))) (tested (with_two (test_by op.AtMost) (B.value env) (A.value env))) (compared_keeps op.AtMost (b.term (length bound)) (a.term (length bound)) (B.value env) (A.value env) (truth_at_most scope env (b.term (length bound)) (a.term (length bound))) r.value l.value) ∙ less_by (A.value env) (B.value env)
-  operator_keeps op.Greater v ty a b A B l r f = negated (narrow.at_most (a.term (length bound)) (b.term (length bound))) (tested (with_two (test_by op.AtMost) (A.value env) (B.value env))) (compared_keeps op.AtMost (a.term (length bound)) (b.term (length bound)) (A.value env) (B.value env) (truth_at_most scope env (a.term (length bound)) (b.term (length bound))) l.value r.value) ∙ greater_by (A.value env) (B.value env)
+  operator_keeps op.Unequal v ty a b A B l r f = negated (built.equal (a.term (length bound)) (b.term (length bound))) (tested (with_two (test_by op.Equal) (A.value env) (B.value env))) (compared_keeps op.Equal (a.term (length bound)) (b.term (length bound)) (A.value env) (B.value env) (truth_equal scope env (a.term (length bound)) (b.term (length bound))) l.value r.value) ∙ unequal_by (A.value env) (B.value env)
+  operator_keeps op.Less v ty a b A B l r f = negated (built.at_most (b.term (length bound)) (a.term (length bound))) (tested (with_two (test_by op.AtMost) (B.value env) (A.value env))) (compared_keeps op.AtMost (b.term (length bound)) (a.term (length bound)) (B.value env) (A.value env) (truth_at_most scope env (b.term (length bound)) (a.term (length bound))) r.value l.value) ∙ less_by (A.value env) (B.value env)
+  operator_keeps op.Greater v ty a b A B l r f = negated (built.at_most (a.term (length bound)) (b.term (length bound))) (tested (with_two (test_by op.AtMost) (A.value env) (B.value env))) (compared_keeps op.AtMost (a.term (length bound)) (b.term (length bound)) (A.value env) (B.value env) (truth_at_most scope env (a.term (length bound)) (b.term (length bound))) l.value r.value) ∙ greater_by (A.value env) (B.value env)
   operator_keeps op.AtMost v ty a b A B l r f = compared_keeps op.AtMost (a.term (length bound)) (b.term (length bound)) (A.value env) (B.value env) (truth_at_most scope env (a.term (length bound)) (b.term (length bound))) l.value r.value
   operator_keeps op.AtLeast v ty a b A B l r f = compared_keeps op.AtMost (b.term (length bound)) (a.term (length bound)) (B.value env) (A.value env) (truth_at_most scope env (b.term (length bound)) (a.term (length bound))) r.value l.value ∙ at_least_by (A.value env) (B.value env)
   operator_keeps op.MemberOf v ty a b A B l r f = member_keeps v.for_a a b (seen env A) (seen env B) l r

@@ -20,7 +20,7 @@ use Rattle.eb_meaning.specs.Truths as truths
 use Rattle.eb_meaning.specs.Truths.{truth_of, tested, for_all}
 use Rattle.eb_meaning.specs.Meaning.{Slot, Env, value_of, truth_in, with_two, test_by, value_by, all_values, is_partition, are_disjoint, is_empty}
 use Rattle.eb_meaning.specs.Fitting.{slot_has_type}
-use Rattle.eb_narrow.specs.Narrow as narrow
+use Rattle.narrow_terms.specs.Building as built
 use Rattle.eb_narrow.proofs.Hypotheses.{Laws}
 use Rattle.eb_narrow.proofs.Truths.{both_truths}
 use Rattle.eb_narrow.proofs.Views.{set_view, layer-set, members-set, same-empty, same_so}
@@ -48,35 +48,35 @@ abbrev slots_apart : List Slot → List Truth3
 slots_apart [] = []
 slots_apart (o ∷ os) = apart_slots o os
 
-value_union_on : (scope : Scope) (env : Env) (s : Term) (ss : List Term) → value_of scope env (narrow.union_on s ss) ≡ union_slots (value_of scope env s) (map (value_of scope env) ss)
+value_union_on : (scope : Scope) (env : Env) (s : Term) (ss : List Term) → value_of scope env (built.union_on s ss) ≡ union_slots (value_of scope env s) (map (value_of scope env) ss)
 value_union_on scope env s [] = refl
 value_union_on scope env s (t ∷ ts) =
-    value_union_on scope env (narrow.operation op.Union s t) ts ∙ ap (λ b. union_slots b (map (value_of scope env) ts)) (value_operation scope env op.Union s t)
+    value_union_on scope env (built.operation op.Union s t) ts ∙ ap (λ b. union_slots b (map (value_of scope env) ts)) (value_operation scope env op.Union s t)
 
-value_union_of : (scope : Scope) (env : Env) (u : EbType) (ss : List Term) → value_of scope env (narrow.union_of u ss) ≡ slots_union (map (value_of scope env) ss)
+value_union_of : (scope : Scope) (env : Env) (u : EbType) (ss : List Term) → value_of scope env (built.union_of u ss) ≡ slots_union (map (value_of scope env) ss)
 value_union_of scope env u [] = value_literal scope env (set []) u
 value_union_of scope env u (s ∷ ss) = value_union_on scope env s ss
 
-truths_apart : (scope : Scope) (env : Env) (u : EbType) (before : Term) (ss : List Term) → map (truth_in scope env) (narrow.are_apart u before ss) ≡ apart_slots (value_of scope env before) (map (value_of scope env) ss)
+truths_apart : (scope : Scope) (env : Env) (u : EbType) (before : Term) (ss : List Term) → map (truth_in scope env) (built.are_apart u before ss) ≡ apart_slots (value_of scope env before) (map (value_of scope env) ss)
 truths_apart scope env u before [] = refl
 truths_apart scope env u before (s ∷ ss) =
     ap₂ (λ p ps. p ∷ ps)
-    (truth_equal scope env (narrow.operation op.Intersection before s) (narrow.empty_set u)
+    (truth_equal scope env (built.operation op.Intersection before s) (built.empty_set u)
     ∙ ap₂ (λ a b. tested (with_two (test_by op.Equal) a b)) (value_operation scope env op.Intersection before s) (value_literal scope env (set []) u))
-    (truths_apart scope env u (narrow.operation op.Union before s) ss ∙ ap (λ b. apart_slots b (map (value_of scope env) ss)) (value_operation scope env op.Union before s))
+    (truths_apart scope env u (built.operation op.Union before s) ss ∙ ap (λ b. apart_slots b (map (value_of scope env) ss)) (value_operation scope env op.Union before s))
 
-truths_disjoint : (scope : Scope) (env : Env) (u : EbType) (ss : List Term) → map (truth_in scope env) (narrow.disjoint_parts u ss) ≡ slots_apart (map (value_of scope env) ss)
+truths_disjoint : (scope : Scope) (env : Env) (u : EbType) (ss : List Term) → map (truth_in scope env) (built.disjoint_parts u ss) ≡ slots_apart (map (value_of scope env) ss)
 truths_disjoint scope env u [] = refl
 truths_disjoint scope env u (s ∷ ss) = truths_apart scope env u s ss
 
 abbrev partition_slots : Slot → List Slot → Truth3
 partition_slots a os = for_all (tested (with_two (test_by op.Equal) a (slots_union os)) ∷ slots_apart os)
 
-truth_partition : (scope : Scope) (env : Env) (u : EbType) (s : Term) (ss : List Term) → truth_in scope env (narrow.partition u (s ∷ ss)) ≡ partition_slots (value_of scope env s) (map (value_of scope env) ss)
+truth_partition : (scope : Scope) (env : Env) (u : EbType) (s : Term) (ss : List Term) → truth_in scope env (built.partition u (s ∷ ss)) ≡ partition_slots (value_of scope env s) (map (value_of scope env) ss)
 truth_partition scope env u s ss =
-    truth_both_on scope env (narrow.equal s (narrow.union_of u ss)) (narrow.disjoint_parts u ss)
+    truth_both_on scope env (built.equal s (built.union_of u ss)) (built.disjoint_parts u ss)
     ∙ ap₂ (λ p ps. for_all (p ∷ ps))
-    (truth_equal scope env s (narrow.union_of u ss) ∙ ap (λ b. tested (with_two (test_by op.Equal) (value_of scope env s) b)) (value_union_of scope env u ss))
+    (truth_equal scope env s (built.union_of u ss) ∙ ap (λ b. tested (with_two (test_by op.Equal) (value_of scope env s) b)) (value_union_of scope env u ss))
     (truths_disjoint scope env u ss)
 
 -- ---- where a part is Undefined
@@ -320,5 +320,5 @@ partition_slots_is laws scope u (Some v) os f = partition_given laws v os (sets_
 -- the truth of a partition in narrow form, by the values of its parts
 pub partition_keeps : Laws → (scope : Scope) (env : Env) (u t : EbType) (s : Term) (ss : List Term) (a : Slot) (os : List Slot) → value_of scope env s ≡ a → map (value_of scope env) ss ≡ os
     → list_all (λ o. slot_has_type scope o (power u)) os ≡ true
-    → truth_in scope env (narrow.partition t (s ∷ ss)) ≡ tested (option_map is_partition (all_values (a ∷ os)))
+    → truth_in scope env (built.partition t (s ∷ ss)) ≡ tested (option_map is_partition (all_values (a ∷ os)))
 partition_keeps laws scope env u t s ss a os p q f = truth_partition scope env t s ss ∙ (ap₂ partition_slots p q ∙ partition_slots_is laws scope u a os f)

@@ -21,8 +21,8 @@ use Rattle.eb_operations.specs.declared.truth3.Truth3.TheVariants.{True, Undefin
 use Rattle.eb_meaning.specs.Truths as truths
 use Rattle.eb_meaning.specs.Truths.{truth_of, tested, for_all, exists}
 use Rattle.eb_meaning.specs.Meaning.{Slot, Env, meaning, value_of, truth_in, inside, with_two, test_by, value_by, truth_by, is_value, over_range, part_of}
-use Rattle.eb_narrow.specs.Narrow.{operation, negation, both, equal, at_most, part, is_defined, whole, both_on, both_of, no_value}
-use Rattle.eb_narrow.specs.Shifting.{shift}
+use Rattle.narrow_terms.specs.Shifting.{shift}
+use Rattle.narrow_terms.specs.Building.{operation, negation, both, equal, at_most, part, is_defined, whole, both_on, both_of, no_value}
 use Rattle.eb_narrow.proofs.Hypotheses.{Laws}
 use Rattle.eb_narrow.proofs.Shifts.{env_of, shifted, unary_is, binary_is, over_is, variable_is}
 use Rattle.eb_narrow.proofs.Truths.{both_assoc, both_none, true_both, if_given}

@@ -23,8 +23,9 @@ use Rattle.eb_meaning.specs.Truths as truths
 use Rattle.eb_meaning.specs.Truths.{truth_of, tested, for_all}
 use Rattle.eb_meaning.specs.Meaning.{Slot, Env, Meaning, meaning, value_of, truth_in, with_two, with_set, with_sets, call_by, value_by, where_given, is_value, has_value, is_value_of, part_of, is_set, is_pair, is_relation, is_related, is_total, is_surjective, is_function, is_injection, maplet_passes, set_in}
 use Rattle.eb_meaning.specs.Meaning as means
+use Rattle.narrow_terms.specs.Building.{both, part, both_of, domain, range, inverse, functional}
 use Rattle.eb_narrow.specs.Narrow as narrow
-use Rattle.eb_narrow.specs.Narrow.{Narrowed, both, part, both_of, domain, range, inverse, functional}
+use Rattle.eb_narrow.specs.Narrow.{Narrowed}
 use Rattle.eb_narrow.proofs.Hypotheses.{Laws}
 use Rattle.eb_narrow.proofs.Sights.{Sight, of_value, fixed}
 use Rattle.eb_narrow.proofs.Shifts.{env_of, unary_is}

@@ -19,9 +19,10 @@ use Rattle.eb_meaning.specs.Truths as truths
 use Rattle.eb_meaning.specs.Truths.{truth_of, tested, for_all, exists}
 use Rattle.eb_meaning.specs.Meaning.{Slot, meaning, value_of, truth_in, inside, with_two, test_by, where_given, is_value, is_value_of, over_range}
 use Rattle.eb_meaning.specs.Fitting.{slot_has_type}
+use Rattle.narrow_terms.specs.Shifting.{shift}
+use Rattle.narrow_terms.specs.Building.{negation, is_defined, whole}
 use Rattle.eb_narrow.specs.Narrow as narrow
-use Rattle.eb_narrow.specs.Narrow.{Narrowed, negation, equal, member, subset, is_defined, whole, both_of, element_type}
-use Rattle.eb_narrow.specs.Shifting.{shift}
+use Rattle.eb_narrow.specs.Narrow.{Narrowed, element_type}
 use Rattle.eb_narrow.proofs.Hypotheses.{Laws}
 use Rattle.eb_narrow.proofs.Sights.{Sight, seen, of_value}
 use Rattle.eb_narrow.proofs.Shifts.{env_of, shifted}

@@ -16,7 +16,7 @@ use Rattle.eb_term.specs.declared.term.Term.{Term}
 use Rattle.eb_term.specs.declared.term.Head.{the_lemmas}
 use Rattle.eb_term.specs.Terms as term
 use Rattle.eb_meaning.specs.Meaning.{Slot, Env, variable_at, part_at, by_unary, by_binary, by_many, by_binder, expression, meaning}
-use Rattle.eb_narrow.specs.Shifting.{shift}
+use Rattle.narrow_terms.specs.Shifting.{shift}
 use Rattle.eb_narrow.proofs.TermInduction.{ind_term}
 use Rattle.eb_narrow.proofs.Sights.{seen, of_value, unary_alike, binary_alike, many_alike, binder_alike}
 

@@ -31,7 +31,8 @@ use Rattle.eb_narrow.specs.Narrow as narrow
 use Rattle.eb_narrow.specs.Narrow.{Narrowed, narrowed}
 use Rattle.eb_narrow.proofs.TermInduction.{ind_term}
 use Rattle.eb_narrow.proofs.Kept.{narrowed-unary, narrowed-binary, narrowed-many, narrowed-over, narrowed-all}
-use Rattle.eb_narrow.specs.Types.{type_of, type_in, type_by_unary, type_by_binary, type_by_many, type_by_binder, element_of, first_of, second_of}
+use Rattle.eb_narrow.specs.Types.{type_of, type_in, type_by_unary, type_by_binary, type_by_many, type_by_binder, first_of, second_of}
+use Rattle.narrow_terms.specs.Parts.{element_of}
 
 element-power : (t : EbType) → element_of (power t) ≡ Some t
 element-power t = search (rules, type_module.the_lemmas)

@@ -3,9 +3,7 @@ use Rattle.std.specs.Prelude.{Bool, true, false, if◌then◌else◌, List, [], 
 use Rattle.eb_syntax.specs.declared.ast.Prefix.{Prefix}
 use Rattle.eb_syntax.specs.declared.ast.Call.{Call}
 use Rattle.eb_syntax.specs.declared.ast.Operator.{Operator}
-use Rattle.eb_value.specs.declared.types.EbType.{EbType, out-EbType}
-use Rattle.eb_value.specs.declared.types.Shape.{Shape, Shape-F, out-Shape}
-use Rattle.eb_value.specs.declared.types.Shape.TheOpen as ty
+use Rattle.eb_value.specs.declared.types.EbType.{EbType}
 use Rattle.eb_value.specs.Types.{integer, boolean, carrier, product, power}
 use Rattle.type_table.specs.declared.pattern.Letter.{Letter}
 use Rattle.type_table.specs.declared.pattern.Letter.TheVariants.{A, B, C, D}
@@ -28,14 +26,7 @@ use Rattle.eb_term.specs.declared.term.Head.{Head-F}
 use Rattle.eb_term.specs.declared.term.Head.TheOpen as head
 use Rattle.eb_term.specs.Terms.{by_parts}
 use Rattle.eb_term.specs.Typed.{part_of_type, of_two}
-
-abbrev pub element_in : Shape-F Shape EbType → Option EbType
-element_in (ty.Power t) = Some t
-element_in _ = None
-
--- the type of the members of a set
-abbrev pub element_of : EbType → Option EbType
-element_of t = element_in (out-Shape (out-EbType t).shape)
+use Rattle.narrow_terms.specs.Parts.{element_of}
 
 abbrev pub first_of : EbType → Option EbType
 first_of t = part_of_type side.First t

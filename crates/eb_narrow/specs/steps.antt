@@ -3,4 +3,3 @@ pub mod Counting
 pub mod Kinds
 pub mod Letters
 pub mod Narrowing
-pub mod Partition

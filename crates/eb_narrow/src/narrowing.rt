@@ -1,17 +1,15 @@
 //! Narrow form.
 ghost use Rattle.std.specs.Prelude.{◌≡◌, ◌+◌, ◌||◌, IfOk, map, Option, None};
 ghost use Rattle.eb_term.specs.declared.term.Term.{Term};
+ghost use Rattle.narrow_terms.specs.Shifting.{shift};
+ghost use Rattle.narrow_terms.specs.Building as built;
 ghost use Rattle.eb_narrow.specs.Narrow as spec;
-ghost use Rattle.eb_narrow.specs.Shifting.{shift};
 ghost use Rattle.eb_narrow.specs.steps.Kinds as kinds;
 ghost use Rattle.eb_narrow.specs.steps.Letters as letters;
 ghost use Rattle.eb_narrow.specs.steps.Narrowing as step;
 
-use crate::build::{both, infinite_has, is_defined, negation, no_value, operation, part};
 use crate::kinds::{BinaryKind, Question, UnaryKind, is_form_kind, is_whole, unary_kind};
-use crate::partition::partition;
 use crate::sets::{is_form, is_integers, kind_at};
-use crate::shift::{copied, shifted, sum};
 use crate::types::{element_type, type_or_any};
 use crate::written::{
     all, arrow_has, identity, is_between, is_nonempty, joined, member_at, none_is_out, one_part,
@@ -19,6 +17,11 @@ use crate::written::{
 };
 use eb_syntax::Operator;
 use eb_term::{Binary, Binder, Head, Many, Side, Term, Terms, Unary};
+use eb_value::EbType;
+use narrow_terms::{
+    both, copied, infinite_has, is_defined, negation, no_value, operation, part, partition,
+    shifted, sum,
+};
 use sqlite_items::Items;
 use std::alloc::{AllocError, Global};
 
@@ -127,7 +130,20 @@ fn many_at(alloc: Global, many: Many, parts: &[Term], depth: u32) -> Result<Term
     let terms = terms_at(alloc, parts, depth)?;
     match many {
         Many::Extension => Ok(Term::many(many, terms)),
-        Many::Partition => partition(alloc, parts, terms),
+        Many::Partition => {
+            let ty = first_type(alloc, parts)?;
+            partition(alloc, &ty, terms)
+        }
+    }
+}
+
+/// The type of the first of the sets, BOOL where there is none.
+fn first_type(alloc: Global, sets: &[Term]) -> Result<EbType, AllocError>
+    ensures { IfOk result (λ t. t ≡ step.first_type sets.now) }
+{
+    match sets {
+        [] => Ok(EbType::boolean()),
+        [first, ..] => type_or_any(alloc, first),
     }
 }
 
@@ -218,7 +234,7 @@ fn beside(
     operator: Operator,
     e: &Term,
 ) -> Result<Term, AllocError>
-    ensures { IfOk result (λ t. t ≡ spec.operation operator e.now (shift depth by ((spec.narrowed set.now).term depth))) }
+    ensures { IfOk result (λ t. t ≡ built.operation operator e.now (shift depth by ((spec.narrowed set.now).term depth))) }
 {
     let set = end_at(alloc, set, depth, by)?;
     let e = copied(alloc, e)?;
@@ -261,7 +277,7 @@ fn part_has(
     side: Side,
     e: &Term,
 ) -> Result<Term, AllocError>
-    ensures { IfOk result (λ t. t ≡ (spec.narrowed form.now).has depth by (spec.part side e.now)) }
+    ensures { IfOk result (λ t. t ≡ (spec.narrowed form.now).has depth by (built.part side e.now)) }
 {
     let e = part(alloc, side, e)?;
     has(alloc, form, depth, by, &e)

@@ -2,14 +2,14 @@
 ghost use Rattle.std.specs.Prelude.{◌≡◌, IfOk, Some, None, unwrap_or};
 ghost use Rattle.std.specs.Option.{option_copied};
 ghost use Rattle.eb_value.specs.Types as types;
-ghost use Rattle.eb_term.specs.Typed as typed;
 ghost use Rattle.type_table.specs.Rows as rows;
 ghost use Rattle.type_table.specs.declared.pattern.Letter.TheVariants as letter;
 ghost use Rattle.eb_narrow.specs.Types as spec;
 ghost use Rattle.eb_narrow.specs.steps.Letters as step;
 
 use eb_term::{Binary, Binder, Head, Many, Side, Term, Unary};
-use eb_value::{EbType, Shape};
+use eb_value::EbType;
+use narrow_terms::{element_of, part_of};
 use std::alloc::{AllocError, Global};
 use type_table::{
     BinaryRow, Letter, Pattern, UnaryRow, call_row, inverse_row, operator_row, prefix_row,
@@ -261,27 +261,6 @@ fn letter_in_pair<'a>(
         part_of(pair?, Side::Second)
     } else {
         None
-    }
-}
-
-/// The type of the members of a set.
-fn element_of(ty: &EbType) -> Option<&EbType>
-    ensures { option_copied result ≡ spec.element_of ty.now }
-{
-    match &ty.shape {
-        Shape::Power(members) => Some(members.get()),
-        _ => None,
-    }
-}
-
-/// The type of a part of a pair.
-fn part_of(ty: &EbType, side: Side) -> Option<&EbType>
-    ensures { option_copied result ≡ typed.part_of_type side ty.now }
-{
-    match (&ty.shape, side) {
-        (Shape::Product(first, _), Side::First) => Some(first.get()),
-        (Shape::Product(_, second), Side::Second) => Some(second.get()),
-        _ => None,
     }
 }
 

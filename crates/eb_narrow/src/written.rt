@@ -4,17 +4,18 @@ ghost use Rattle.eb_syntax.specs.declared.ast.Operator.TheVariants as op;
 ghost use Rattle.eb_term.specs.declared.operators.Binder.TheVariants as binder;
 ghost use Rattle.eb_term.specs.Terms as term;
 ghost use Rattle.eb_meaning.specs.Meaning.{is_function, is_injection};
+ghost use Rattle.narrow_terms.specs.Building as built;
 ghost use Rattle.eb_narrow.specs.Narrow as spec;
 ghost use Rattle.eb_narrow.specs.steps.Kinds as kinds;
 ghost use Rattle.eb_narrow.specs.steps.Narrowing as step;
 
-use crate::build::{
-    both, call, empty_set, extension, functional, inverse, is_defined, negation, operation, whole,
-};
-use crate::shift::{copied, sum};
 use eb_syntax::{Call, Operator, Prefix};
 use eb_term::{Binary, Binder, SharedType, Side, Term, Unary};
 use eb_value::EbType;
+use narrow_terms::{
+    both, call, copied, empty_set, extension, functional, inverse, is_defined, negation, operation,
+    sum, whole,
+};
 use operator_kinds::{is_function, is_injection};
 use std::alloc::{AllocError, Global};
 
@@ -30,7 +31,7 @@ pub(crate) fn joined(alloc: Global, before: Option<Term>, next: Term) -> Result<
 
 /// The value of the binder that stands next under these.
 pub(crate) fn member_at(alloc: Global, depth: u32, by: u32, ty: EbType) -> Result<Term, AllocError>
-    ensures { IfOk result (λ t. t ≡ spec.whole (depth + by) ty) }
+    ensures { IfOk result (λ t. t ≡ built.whole (depth + by) ty) }
 {
     let binder = sum(depth, by)?;
     let ty = SharedType::new(alloc, ty)?;
@@ -39,7 +40,7 @@ pub(crate) fn member_at(alloc: Global, depth: u32, by: u32, ty: EbType) -> Resul
 
 /// That of no member of e the predicate is False.
 pub(crate) fn none_is_out(alloc: Global, e: &Term, is_in: Term) -> Result<Term, AllocError>
-    ensures { IfOk result (λ t. t ≡ spec.negation (term.over binder.Exists e.now (spec.negation is_in))) }
+    ensures { IfOk result (λ t. t ≡ built.negation (term.over binder.Exists e.now (built.negation is_in))) }
 {
     let is_out = negation(alloc, is_in)?;
     let e = copied(alloc, e)?;
@@ -49,7 +50,7 @@ pub(crate) fn none_is_out(alloc: Global, e: &Term, is_in: Term) -> Result<Term, 
 
 /// That e isn't empty.
 pub(crate) fn is_nonempty(alloc: Global, e: &Term, ty: EbType) -> Result<Term, AllocError>
-    ensures { IfOk result (λ t. t ≡ spec.negation (spec.equal e.now (spec.empty_set ty))) }
+    ensures { IfOk result (λ t. t ≡ built.negation (built.equal e.now (built.empty_set ty))) }
 {
     let none = empty_set(alloc, ty)?;
     let e = copied(alloc, e)?;
@@ -75,7 +76,7 @@ pub(crate) fn arrow_has(
     to: Term,
     e: &Term,
 ) -> Result<Term, AllocError>
-    ensures { IfOk result (λ t. t ≡ spec.both_of (from ∷ to ∷ (spec.if_asked (is_function arrow) (spec.functional e.now) ++ spec.if_asked (is_injection arrow) (spec.functional (spec.inverse e.now))))) }
+    ensures { IfOk result (λ t. t ≡ built.both_of (from ∷ to ∷ (spec.if_asked (is_function arrow) (built.functional e.now) ++ spec.if_asked (is_injection arrow) (built.functional (built.inverse e.now))))) }
 {
     let sides = both(alloc, from, to)?;
     let sides = if is_function(arrow) {
@@ -92,7 +93,7 @@ pub(crate) fn arrow_has(
 }
 
 fn also_functional(alloc: Global, before: Term, relation: Term) -> Result<Term, AllocError>
-    ensures { IfOk result (λ t. t ≡ spec.both before (spec.functional relation)) }
+    ensures { IfOk result (λ t. t ≡ built.both before (built.functional relation)) }
 {
     let functional = functional(alloc, relation)?;
     both(alloc, before, functional)
@@ -100,7 +101,7 @@ fn also_functional(alloc: Global, before: Term, relation: Term) -> Result<Term, 
 
 /// That e lies between two ends.
 pub(crate) fn is_between(alloc: Global, low: Term, high: Term, e: &Term) -> Result<Term, AllocError>
-    ensures { IfOk result (λ t. t ≡ spec.both (spec.at_most low e.now) (spec.at_most e.now high)) }
+    ensures { IfOk result (λ t. t ≡ built.both (built.at_most low e.now) (built.at_most e.now high)) }
 {
     let above = operation(alloc, Operator::AtMost, low, copied(alloc, e)?)?;
     let below = operation(alloc, Operator::AtMost, copied(alloc, e)?, high)?;
@@ -109,7 +110,7 @@ pub(crate) fn is_between(alloc: Global, low: Term, high: Term, e: &Term) -> Resu
 
 /// `0 - a`
 fn negative(alloc: Global, a: Term) -> Result<Term, AllocError>
-    ensures { IfOk result (λ t. t ≡ spec.operation op.Minus (term.integer (pos 0)) a) }
+    ensures { IfOk result (λ t. t ≡ built.operation op.Minus (term.integer (pos 0)) a) }
 {
     let zero = Term::integer(alloc, 0)?;
     operation(alloc, Operator::Minus, zero, a)
@@ -117,7 +118,7 @@ fn negative(alloc: Global, a: Term) -> Result<Term, AllocError>
 
 /// `e <: s`
 fn subset(alloc: Global, e: &Term, set: &Term) -> Result<Term, AllocError>
-    ensures { IfOk result (λ t. t ≡ spec.subset e.now set.now) }
+    ensures { IfOk result (λ t. t ≡ built.subset e.now set.now) }
 {
     let e = copied(alloc, e)?;
     let set = copied(alloc, set)?;
@@ -126,7 +127,7 @@ fn subset(alloc: Global, e: &Term, set: &Term) -> Result<Term, AllocError>
 
 /// `not e = s`
 fn differ(alloc: Global, e: Term, set: Term) -> Result<Term, AllocError>
-    ensures { IfOk result (λ t. t ≡ spec.negation (spec.equal e set)) }
+    ensures { IfOk result (λ t. t ≡ built.negation (built.equal e set)) }
 {
     let same = operation(alloc, Operator::Equal, e, set)?;
     negation(alloc, same)
@@ -134,7 +135,7 @@ fn differ(alloc: Global, e: Term, set: Term) -> Result<Term, AllocError>
 
 /// `e <<: s`
 pub(crate) fn proper_subset(alloc: Global, e: &Term, set: Term) -> Result<Term, AllocError>
-    ensures { IfOk result (λ t. t ≡ spec.conjunction (spec.subset e.now set) (spec.negation (spec.equal e.now set))) }
+    ensures { IfOk result (λ t. t ≡ built.conjunction (built.subset e.now set) (built.negation (built.equal e.now set))) }
 {
     let within = subset(alloc, e, &set)?;
     let e = copied(alloc, e)?;
@@ -160,7 +161,7 @@ pub(crate) fn union_of_members(
     ty: EbType,
     depth: u32,
 ) -> Result<Term, AllocError>
-    ensures { IfOk result (λ t. t ≡ term.over binder.Collect sets (spec.whole depth ty)) }
+    ensures { IfOk result (λ t. t ≡ term.over binder.Collect sets (built.whole depth ty)) }
 {
     let member = member_at(alloc, depth, 0, ty)?;
     Term::over(alloc, Binder::Collect, sets, member)

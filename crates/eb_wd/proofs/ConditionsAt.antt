@@ -21,7 +21,7 @@ use Rattle.eb_term.specs.declared.operators.Side.{Side}
 use Rattle.eb_term.specs.declared.term.Term.{Term, the_lemmas}
 use Rattle.eb_term.specs.Terms as term
 use Rattle.eb_term.specs.Terms.{by_parts}
-use Rattle.eb_narrow.specs.Narrow.{operation}
+use Rattle.narrow_terms.specs.Building.{operation}
 use Rattle.eb_wd.specs.WellDefined.{Conditions, wd_step}
 use Rattle.eb_wd.specs.WellDefined as wd
 use Rattle.eb_wd.proofs.TermInduction.{ind_term}

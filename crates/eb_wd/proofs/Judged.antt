@@ -29,7 +29,7 @@ use Rattle.eb_operations.specs.declared.truth3.Truth3.TheVariants.{Undefined}
 use Rattle.eb_meaning.specs.Truths as truths
 use Rattle.eb_meaning.specs.Truths.{truth_of, tested, for_all, exists}
 use Rattle.eb_meaning.specs.Meaning.{Slot, Env, Meaning, meaning, value_of, truth_in, inside, is_value, over_range, by_prefix, by_call, by_operator, by_unary, test_by, member, subset, proper_subset, is_within, is_value_of}
-use Rattle.eb_narrow.specs.Narrow.{operation, conjunction}
+use Rattle.narrow_terms.specs.Building.{operation, conjunction}
 use Rattle.eb_wd.specs.WellDefined.{Conditions}
 use Rattle.eb_wd.specs.WellDefined as wd
 use Rattle.eb_wd.proofs.MeaningAt.{has_value_in, meaning-unary, meaning-binary, truth-truth, truth-defined, truth-conjunction, truth-implication, truth-disjunction, truth-for_all_over, truth-for_all}

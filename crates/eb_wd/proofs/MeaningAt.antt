@@ -16,7 +16,7 @@ use Rattle.eb_meaning.specs.Truths as truths
 use Rattle.eb_meaning.specs.Truths.{truth_of, for_all}
 use Rattle.eb_meaning.specs.Meaning.{Slot, Env, meaning, value_of, truth_in, inside, is_value, by_unary, by_binary, by_many, by_binder, over_range}
 use Rattle.eb_meaning.specs.Fitting.{fits}
-use Rattle.eb_narrow.specs.Narrow.{conjunction}
+use Rattle.narrow_terms.specs.Building.{conjunction}
 use Rattle.eb_wd.specs.WellDefined as wd
 
 pub meaning-unary : (scope : Scope) (o : Unary) (a : Term) → meaning scope (term.unary o a) ≡ by_unary o (meaning scope a)

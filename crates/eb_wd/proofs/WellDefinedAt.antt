@@ -17,7 +17,7 @@ use Rattle.eb_term.specs.declared.term.Term.{Term, fold_out-Term}
 use Rattle.eb_term.specs.declared.term.Head.{the_lemmas}
 use Rattle.eb_term.specs.declared.term.Head.TheVariants as head
 use Rattle.eb_term.specs.Terms as term
-use Rattle.eb_narrow.specs.Narrow.{operation, conjunction}
+use Rattle.narrow_terms.specs.Building.{operation, conjunction}
 use Rattle.eb_wd.specs.WellDefined.{Conditions}
 use Rattle.operator_kinds.specs.Operators as kind
 use Rattle.eb_wd.specs.WellDefined as wd

@@ -19,7 +19,7 @@ use Rattle.eb_term.specs.declared.term.Head.TheOpen as head
 use Rattle.eb_term.specs.Terms as term
 use Rattle.eb_term.specs.Terms.{by_parts}
 use Rattle.operator_kinds.specs.Operators.{is_membership, is_product, is_arrow}
-use Rattle.eb_narrow.specs.Narrow.{operation, conjunction}
+use Rattle.narrow_terms.specs.Building.{operation, conjunction}
 
 -- A term; of a predicate, what says that it isn't Undefined; of what stands to the right of a membership, its value parts; and
 -- whether it is a form.

@@ -5,31 +5,19 @@ ghost use Rattle.eb_term.specs.declared.term.Term.{Term};
 ghost use Rattle.eb_term.specs.Terms as term;
 ghost use Rattle.eb_term.specs.Terms.{by_parts};
 ghost use Rattle.operator_kinds.specs.Operators as kind;
-ghost use Rattle.eb_narrow.specs.Narrow as narrow;
+ghost use Rattle.narrow_terms.specs.Building as built;
 ghost use Rattle.eb_wd.specs.WellDefined as spec;
 ghost use Rattle.eb_wd.specs.WellDefined.{Conditions, wd_step};
 
-use eb_narrow::copied;
 use eb_syntax::{Call, Operator, Prefix};
 use eb_term::{Binary, Binder, Head, Many, Term, Unary};
+use narrow_terms::{copied, operation};
 use operator_kinds::{is_arrow, is_membership, is_product};
 use std::alloc::{AllocError, Global};
 
-/// The operator between two terms.
-pub(crate) fn operation(
-    alloc: Global,
-    operator: Operator,
-    left: Term,
-    right: Term,
-) -> Result<Term, AllocError>
-    ensures { IfOk result (λ t. t ≡ narrow.operation operator left right) }
-{
-    Term::binary(alloc, Binary::Operator(operator), left, right)
-}
-
 /// `P & Q`
 pub(crate) fn conjunction(alloc: Global, left: Term, right: Term) -> Result<Term, AllocError>
-    ensures { IfOk result (λ t. t ≡ narrow.conjunction left right) }
+    ensures { IfOk result (λ t. t ≡ built.conjunction left right) }
 {
     operation(alloc, Operator::And, left, right)
 }
@@ -44,7 +32,7 @@ pub(crate) fn defined(alloc: Global, term: &Term) -> Result<Term, AllocError>
 
 /// The conjunction of this with that the expression is defined.
 fn and_defined(alloc: Global, so_far: Term, term: &Term) -> Result<Term, AllocError>
-    ensures { IfOk result (λ t. t ≡ narrow.conjunction so_far (spec.is_defined term.now)) }
+    ensures { IfOk result (λ t. t ≡ built.conjunction so_far (spec.is_defined term.now)) }
 {
     let last = defined(alloc, term)?;
     conjunction(alloc, so_far, last)

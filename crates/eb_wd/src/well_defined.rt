@@ -4,13 +4,13 @@
 ghost use Rattle.std.specs.Prelude.{◌≡◌, IfOk, Bool, true, false, map, ◌∷◌, []};
 ghost use Rattle.eb_term.specs.declared.operators.Binder.TheVariants as binder;
 ghost use Rattle.eb_term.specs.Terms as term;
-ghost use Rattle.eb_narrow.specs.Narrow as narrow;
+ghost use Rattle.narrow_terms.specs.Building as built;
 ghost use Rattle.eb_wd.specs.WellDefined as spec;
 
-use crate::parts::{all_defined, conjunction, defined, operation, relation};
-use eb_narrow::copied;
+use crate::parts::{all_defined, conjunction, defined, relation};
 use eb_syntax::{Call, Operator, Prefix};
 use eb_term::{Binary, Binder, Head, Many, Term, Unary};
+use narrow_terms::{copied, operation};
 use std::alloc::{AllocError, Global};
 
 /// What says that the predicate isn't Undefined; of an expression, `true`. Of `P & Q` and `P => Q` it is that of P and, where P
@@ -90,7 +90,7 @@ fn guarded(
     first: Term,
     second: Term,
 ) -> Result<Term, AllocError>
-    ensures { IfOk result (λ t. t ≡ narrow.conjunction first (narrow.operation join left.now second)) }
+    ensures { IfOk result (λ t. t ≡ built.conjunction first (built.operation join left.now second)) }
 {
     let left = copied(alloc, left)?;
     let second = operation(alloc, join, left, second)?;
@@ -99,7 +99,7 @@ fn guarded(
 
 /// That the set is defined, and the body at each member of it.
 fn over_range(alloc: Global, range: &Term, body: Term) -> Result<Term, AllocError>
-    ensures { IfOk result (λ t. t ≡ narrow.conjunction (spec.is_defined range.now) (term.over binder.ForAll range.now body)) }
+    ensures { IfOk result (λ t. t ≡ built.conjunction (spec.is_defined range.now) (term.over binder.ForAll range.now body)) }
 {
     let whole = defined(alloc, range)?;
     let range = copied(alloc, range)?;

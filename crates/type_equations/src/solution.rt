@@ -35,28 +35,36 @@ impl Model for Solution {
     ghost invariant = { λ s. IsSolution s.store s.asked };
 }
 
-/// The type of a number, written out. The only error is want of memory.
-fn written(alloc: Global, store: &Store, number: u32) -> Result<EbType, AllocError>
+/// How many steps it takes at most to write out a type.
+const MOST_STEPS: u32 = 1_000_000;
+
+/// The type of a number, written out in so many steps at most. The only error is want of memory, which also comes where it takes
+/// more.
+fn written(alloc: Global, store: &Store, number: u32, steps: &mut u32) -> Result<EbType, AllocError>
     requires placed { ArePlaced store.now }
     requires solved { spec.AreSolved integer store.now }
     requires there { number < length store.now }
     ensures { IfOk result (λ ty. ty ≡ spec.type_at integer store.now number) }
 {
+    let Some(left) = steps.checked_sub(1) else {
+        return Err(AllocError);
+    };
+    *steps = left;
     let shape = match store.entry(number) {
         Entry::Free | Entry::Integer => Shape::Integer,
         Entry::Boolean => Shape::Bool,
         Entry::Carrier(place) => Shape::Carrier(place),
         Entry::Link(other) => {
-            let ty = written(alloc, store, other)?;
+            let ty = written(alloc, store, other, steps)?;
             return Ok(ty);
         }
         Entry::Product(first, second) => {
-            let first = written(alloc, store, first)?;
-            let second = written(alloc, store, second)?;
+            let first = written(alloc, store, first, steps)?;
+            let second = written(alloc, store, second, steps)?;
             Shape::Product(Boxed::new(alloc, first)?, Boxed::new(alloc, second)?)
         }
         Entry::Power(members) => {
-            let members = written(alloc, store, members)?;
+            let members = written(alloc, store, members, steps)?;
             Shape::Power(Boxed::new(alloc, members)?)
         }
     };
@@ -80,13 +88,15 @@ impl Solution {
     }
 
     /// The type of a number, written out, and None exactly where the number isn't asked for. A type is at most 1,000 deep,
-    /// and so is the recursion. The only error is want of memory: a type can be much larger than the equations.
+    /// and so is the recursion. The only error is want of memory, which also comes where it takes more than 1,000,000 steps: a type
+    /// can be much larger than the equations.
     pub fn type_of(&self, alloc: Global, number: u32) -> Result<Option<EbType>, AllocError>
         ensures value { IfOk result (λ ty. ty ≡ slice_get self.now number) }
         ensures shallow { IfOk result (λ ty. IfSome ty IsShallow) }
     {
         if number < self.asked {
-            let ty = written(alloc, &self.store, number)?;
+            let mut steps = MOST_STEPS;
+            let ty = written(alloc, &self.store, number, &mut steps)?;
             Ok(Some(ty))
         } else {
             Ok(None)

@@ -7,7 +7,7 @@ use Rattle.cbc_answers.specs.declared.status.Status.TheVariants.{Refused, WriteF
 use Rattle.cbc_top.specs.declared.stop.Stop.{Stop}
 use Rattle.cbc_top.specs.declared.stop.Stop.TheVariants as stop
 use Rattle.cbc_top.specs.Opening.{HasRead, HasFailed}
-use Rattle.cbc_answers.specs.Refusals.{refusal_text}
+use Rattle.model_text.specs.Refusals.{refusal_text}
 
 -- These files were read, and no other, and the contents have P.
 abbrev pub Reads : (List (List ℕ) → List ℕ → Type 0) → Option Files → List (List ℕ) → List (List ℕ) → (List (List ℕ) → Type 0) → Type 0

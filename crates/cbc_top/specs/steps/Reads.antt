@@ -3,12 +3,13 @@ use Rattle.std.specs.Prelude.{◌≡◌, ◌⊎◌, ℕ, ◌≤◌, ◌<◌, ◌
 use Rattle.cbc_outside.specs.Outside.{Files, IsWhole, Rose}
 use Rattle.cbc_outside.specs.declared.streams.ReadStop.{ReadStop}
 use Rattle.cbc_outside.specs.declared.streams.ReadStop.TheVariants as reading
-use Rattle.cbc_answers.specs.declared.refusal.Refusal.{Refusal}
-use Rattle.cbc_answers.specs.declared.refusal.Refusal.TheVariants.{TooLong, NotYet}
+use Rattle.model_text.specs.declared.refusal.Refusal.{Refusal}
+use Rattle.model_text.specs.declared.refusal.Refusal.TheVariants.{TooLong, NotYet}
 use Rattle.cbc_top.specs.declared.stop.Stop.{Stop}
 use Rattle.cbc_top.specs.declared.stop.Stop.TheVariants as stop
-use Rattle.linear_models.specs.declared.syntax.LinearModel.{LinearModel}
-use Rattle.cbc_answers.specs.Texts.{IsText, RefusesText}
+use Rattle.model_text.specs.declared.asked.Asked.{Asked}
+use Rattle.model_text.specs.declared.asked.Wanted.{Wanted}
+use Rattle.model_text.specs.Texts.{IsText, RefusesText}
 use Rattle.cbc_top.specs.ModelFiles.{joined, IsNextOf, AreAll, AreTooLong}
 use Rattle.cbc_top.specs.Opening.{HasRead, HasFailed}
 
@@ -43,15 +44,15 @@ Joins names files old new blamed (Err reading.Failed) = HasFailed (IsNextOf name
 Joins names files old new blamed (Err reading.Memory) = ReadsSome names files old new
 
 -- why a model is refused
-abbrev pub RefusesModel : List (List ℕ) → List (List ℕ) → Refusal → Type 0
-RefusesModel names contents refusal = (AreAll names contents × RefusesText (joined contents) refusal) ⊎ (AreTooLong names contents × (refusal ≡ TooLong))
+abbrev pub RefusesModel : Wanted → List (List ℕ) → List (List ℕ) → Refusal → Type 0
+RefusesModel wanted names contents refusal = (AreAll names contents × RefusesText wanted (joined contents) refusal) ⊎ (AreTooLong names contents × (refusal ≡ TooLong))
 
--- the model of some files, or why it isn't had
-abbrev pub ReadsModel : List (List ℕ) → Option Files → List (List ℕ) → List (List ℕ) → Option (List ℕ) → Result (Option LinearModel) Stop → Type 0
-ReadsModel names files old new blamed (Ok t) = (contents : List (List ℕ)) × HasRead (IsNextOf names) files old new contents × AreAll names contents × IsText (joined contents) t
-ReadsModel names files old new blamed (Err (stop.Refused refusal)) = (contents : List (List ℕ)) × HasRead (IsNextOf names) files old new contents × RefusesModel names contents refusal
-ReadsModel names files old new blamed (Err stop.ReadFault) = HasFailed (IsNextOf names) files old new blamed
-ReadsModel names files old new blamed (Err stop.Memory) = ReadsSome names files old new
+-- what the files of a model ask, or why it isn't had
+abbrev pub ReadsModel : Wanted → List (List ℕ) → Option Files → List (List ℕ) → List (List ℕ) → Option (List ℕ) → Result Asked Stop → Type 0
+ReadsModel wanted names files old new blamed (Ok a) = (contents : List (List ℕ)) × HasRead (IsNextOf names) files old new contents × AreAll names contents × IsText wanted (joined contents) a
+ReadsModel wanted names files old new blamed (Err (stop.Refused refusal)) = (contents : List (List ℕ)) × HasRead (IsNextOf names) files old new contents × RefusesModel wanted names contents refusal
+ReadsModel wanted names files old new blamed (Err stop.ReadFault) = HasFailed (IsNextOf names) files old new blamed
+ReadsModel wanted names files old new blamed (Err stop.Memory) = ReadsSome names files old new
 
 -- the text of a tree's file, or why it isn't had
 abbrev pub ReadsTree : Option Files → List ℕ → Option (List ℕ) → Result (List ℕ) Stop → Type 0

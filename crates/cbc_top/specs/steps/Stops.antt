@@ -1,6 +1,6 @@
 -- How a fault of a text ends a run. No public clause names this.
-use Rattle.cbc_answers.specs.declared.fault.TextFault.{TextFault}
-use Rattle.cbc_answers.specs.declared.fault.TextFault.TheVariants as fault
+use Rattle.model_text.specs.declared.fault.TextFault.{TextFault}
+use Rattle.model_text.specs.declared.fault.TextFault.TheVariants as fault
 use Rattle.cbc_top.specs.declared.stop.Stop.{Stop}
 use Rattle.cbc_top.specs.declared.stop.Stop.TheVariants as stop
 

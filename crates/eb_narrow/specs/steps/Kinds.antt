@@ -14,8 +14,9 @@ use Rattle.eb_term.specs.declared.operators.Side.TheVariants as side
 use Rattle.eb_term.specs.declared.term.Term.{Term}
 use Rattle.eb_term.specs.Terms as term
 use Rattle.eb_meaning.specs.Meaning.{is_arrow, is_total, is_surjective}
-use Rattle.eb_narrow.specs.Shifting.{shift}
-use Rattle.eb_narrow.specs.Narrow.{Narrowed, operation, negation, equal, at_most, is_defined, expression, predicate, proper_subset, both, subset, power_set, nonempty_power_set, product_form, arrow_form, union_of_members}
+use Rattle.narrow_terms.specs.Shifting.{shift}
+use Rattle.narrow_terms.specs.Building.{operation, negation, equal, at_most, is_defined, both, subset}
+use Rattle.eb_narrow.specs.Narrow.{Narrowed, expression, predicate, proper_subset, power_set, nonempty_power_set, product_form, arrow_form, union_of_members}
 use Rattle.eb_narrow.specs.declared.kinds.UnaryKind.{UnaryKind}
 use Rattle.eb_narrow.specs.declared.kinds.UnaryKind.TheVariants as kind
 use Rattle.eb_narrow.specs.declared.kinds.Question.{Question}

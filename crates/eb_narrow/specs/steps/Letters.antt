@@ -11,7 +11,8 @@ use Rattle.std.specs.Option.{option_copied}
 use Rattle.eb_term.specs.declared.operators.Side.{Side}
 use Rattle.eb_term.specs.declared.term.Term.{Term}
 use Rattle.eb_term.specs.Typed.{part_of_type, of_two}
-use Rattle.eb_narrow.specs.Types.{element_of, first_of, second_of, of_letters, first_type, type_of}
+use Rattle.narrow_terms.specs.Parts.{element_of}
+use Rattle.eb_narrow.specs.Types.{first_of, second_of, of_letters, first_type, type_of}
 use Rattle.eb_narrow.specs.declared.types.Letters.{Letters}
 
 -- the type of a set, by its first member

@@ -1,8 +1,9 @@
 -- Narrow form in the steps of the code.
-use Rattle.std.specs.Prelude.{ℕ, ◌+◌, nat_lt, Bool, true, false, ◌||◌, if◌then◌else◌, List, [], ◌∷◌, ◌++◌, map, Option, Some, None}
+use Rattle.std.specs.Prelude.{ℕ, ◌+◌, Bool, true, false, List, [], ◌∷◌, map, Option, Some, None, unwrap_or}
 use Rattle.eb_syntax.specs.declared.ast.Operator.{Operator}
 use Rattle.eb_syntax.specs.declared.ast.Operator.TheVariants as op
 use Rattle.eb_value.specs.declared.types.EbType.{EbType}
+use Rattle.eb_value.specs.Types.{boolean}
 use Rattle.eb_term.specs.declared.operators.Binder.{Binder}
 use Rattle.eb_term.specs.declared.operators.Binder.TheVariants as binder
 use Rattle.eb_term.specs.declared.term.Term.{Term}
@@ -13,14 +14,12 @@ use Rattle.eb_term.specs.declared.term.Head.TheOpen as head
 use Rattle.eb_term.specs.Terms as term
 use Rattle.eb_term.specs.Terms.{Layer, layer}
 use Rattle.eb_meaning.specs.Meaning.{is_total, is_surjective}
+use Rattle.narrow_terms.specs.Shifting.{shift}
+use Rattle.narrow_terms.specs.Building.{negation, both, is_defined, domain, range, whole}
 use Rattle.eb_narrow.specs.declared.kinds.UnaryKind.{UnaryKind}
 use Rattle.eb_narrow.specs.declared.kinds.UnaryKind.TheVariants as kind
-use Rattle.eb_narrow.specs.Shifting.{shift}
-use Rattle.eb_narrow.specs.Narrow.{Narrowed, narrowed, operation, negation, both, equal, at_most, is_defined, infinite_set, predicate, by_relation, domain, range, whole, proper_subset}
-
--- the number of a binder of a term that is put under more
-abbrev pub number_under : ℕ → ℕ → ℕ → ℕ
-number_under k from by = if nat_lt k from then k else k + by
+use Rattle.eb_narrow.specs.Types.{type_of}
+use Rattle.eb_narrow.specs.Narrow.{Narrowed}
 
 -- what has been joined, and one more
 abbrev pub joined : Option Term → Term → Term
@@ -63,6 +62,11 @@ is_integers_at _ = false
 -- INT
 abbrev pub is_integers : Term → Bool
 is_integers t = is_integers_at (layer t)
+
+-- the type of the first of the sets, BOOL where there is none
+abbrev pub first_type : List Term → EbType
+first_type [] = boolean
+first_type (s ∷ ss) = unwrap_or (type_of s) boolean
 
 abbrev pub is_power_set : UnaryKind → Bool
 is_power_set kind.PowerSet = true

@@ -1,6 +1,6 @@
 use Rattle.cbc_words.specs.Words.{command_of}
 use Rattle.cbc_answers.specs.declared.status.Status.TheVariants.{Refused}
-use Rattle.cbc_answers.specs.Refusals.{refusal_text}
+use Rattle.model_text.specs.Refusals.{refusal_text}
 use Rattle.cbc_top.proofs.Runs.{said_front}
 use Rattle.cbc_top.proofs.top.run.Goals as goal
 

@@ -3,10 +3,12 @@ use Rattle.eb_term.specs.declared.operators.Binder.TheVariants as binder
 use Rattle.eb_term.specs.declared.operators.Side.TheVariants as side
 use Rattle.eb_term.specs.Terms as term
 use Rattle.eb_meaning.specs.Meaning.{is_total, is_surjective}
+use Rattle.narrow_terms.specs.Shifting.{shift}
+use Rattle.narrow_terms.specs.Building as built
+use Rattle.narrow_terms.specs.Building.{operation, is_defined}
 use Rattle.eb_narrow.specs.declared.kinds.BinaryKind.TheVariants as of
-use Rattle.eb_narrow.specs.Shifting.{shift}
 use Rattle.eb_narrow.specs.Narrow as narrow
-use Rattle.eb_narrow.specs.Narrow.{narrowed, operation, is_defined}
+use Rattle.eb_narrow.specs.Narrow.{narrowed}
 use Rattle.eb_narrow.specs.steps.Kinds.{unary_kind, as_unary, as_binary, asked, said, one_part, two_parts, beyond}
 use Rattle.eb_narrow.specs.steps.Narrowing as step
 use Rattle.eb_narrow.proofs.ByKinds.{kind_is}
@@ -67,10 +69,10 @@ pub has-returns-in-Other : goal.has-returns-in-Other
 has-returns-in-Other t c = subst (λ z. IfOk c.beside-in-Other.result (λ o. o ≡ z)) (plain_unary c.args.form.now c.in-Unary.part c.in-Unary.operator c.in-Unary.is (sym c.unary_kind.ensures ∙ c.in-Other.is) c.args.depth c.args.by c.args.e.now) c.beside-in-Other.ensures
 
 pub has-returns-in_ok-to-in-Arrow : goal.has-returns-in_ok-to-in-Arrow
-has-returns-in_ok-to-in-Arrow t c = subst (λ z. IfOk c.arrow_has.result (λ o. o ≡ z)) (arrow_has c.args.form.now c.in-Binary.left c.in-Binary.right c.in-Binary.operator c.in-Arrow.arrow c.args.depth c.args.by c.args.e.now c.in_ok-from-in-Arrow.from c.in_ok-to-in-Arrow.to c.in-Binary.is (kind_is c.in-Binary.operator c.in-Binary.left c.in-Binary.right c.get-in-Binary.result.now c.get-in-Binary-2.result.now c.kind_at.result (of.Arrow c.in-Arrow.arrow) c.get-in-Binary.ensures c.get-in-Binary-2.ensures c.kind_at.ensures c.in-Arrow.is) (c.in_ok-from-in-Arrow.ensures ∙ ap (λ a. narrow.covers (is_total c.in-Arrow.arrow) (narrowed a) c.args.depth c.args.by (narrow.domain c.args.e.now)) c.get-in-Arrow.ensures) (c.in_ok-to-in-Arrow.ensures ∙ ap (λ b. narrow.covers (is_surjective c.in-Arrow.arrow) (narrowed b) c.args.depth c.args.by (narrow.range c.args.e.now)) c.get-in-Arrow-2.ensures)) c.arrow_has.ensures
+has-returns-in_ok-to-in-Arrow t c = subst (λ z. IfOk c.arrow_has.result (λ o. o ≡ z)) (arrow_has c.args.form.now c.in-Binary.left c.in-Binary.right c.in-Binary.operator c.in-Arrow.arrow c.args.depth c.args.by c.args.e.now c.in_ok-from-in-Arrow.from c.in_ok-to-in-Arrow.to c.in-Binary.is (kind_is c.in-Binary.operator c.in-Binary.left c.in-Binary.right c.get-in-Binary.result.now c.get-in-Binary-2.result.now c.kind_at.result (of.Arrow c.in-Arrow.arrow) c.get-in-Binary.ensures c.get-in-Binary-2.ensures c.kind_at.ensures c.in-Arrow.is) (c.in_ok-from-in-Arrow.ensures ∙ ap (λ a. narrow.covers (is_total c.in-Arrow.arrow) (narrowed a) c.args.depth c.args.by (built.domain c.args.e.now)) c.get-in-Arrow.ensures) (c.in_ok-to-in-Arrow.ensures ∙ ap (λ b. narrow.covers (is_surjective c.in-Arrow.arrow) (narrowed b) c.args.depth c.args.by (built.range c.args.e.now)) c.get-in-Arrow-2.ensures)) c.arrow_has.ensures
 
 pub has-returns-in_ok-second-in-Product : goal.has-returns-in_ok-second-in-Product
-has-returns-in_ok-second-in-Product t c = subst (λ z. IfOk c.both.result (λ o. o ≡ z)) (product_has c.args.form.now c.in-Binary.left c.in-Binary.right c.in-Binary.operator c.args.depth c.args.by c.args.e.now c.in_ok-first-in-Product.first c.in_ok-second-in-Product.second c.in-Binary.is (kind_is c.in-Binary.operator c.in-Binary.left c.in-Binary.right c.get-in-Binary.result.now c.get-in-Binary-2.result.now c.kind_at.result (of.Product) c.get-in-Binary.ensures c.get-in-Binary-2.ensures c.kind_at.ensures c.in-Product.is) (c.in_ok-first-in-Product.ensures ∙ ap (λ a. (narrowed a).has c.args.depth c.args.by (narrow.part side.First c.args.e.now)) c.get-in-Product.ensures) (c.in_ok-second-in-Product.ensures ∙ ap (λ b. (narrowed b).has c.args.depth c.args.by (narrow.part side.Second c.args.e.now)) c.get-in-Product-2.ensures)) c.both.ensures
+has-returns-in_ok-second-in-Product t c = subst (λ z. IfOk c.both.result (λ o. o ≡ z)) (product_has c.args.form.now c.in-Binary.left c.in-Binary.right c.in-Binary.operator c.args.depth c.args.by c.args.e.now c.in_ok-first-in-Product.first c.in_ok-second-in-Product.second c.in-Binary.is (kind_is c.in-Binary.operator c.in-Binary.left c.in-Binary.right c.get-in-Binary.result.now c.get-in-Binary-2.result.now c.kind_at.result (of.Product) c.get-in-Binary.ensures c.get-in-Binary-2.ensures c.kind_at.ensures c.in-Product.is) (c.in_ok-first-in-Product.ensures ∙ ap (λ a. (narrowed a).has c.args.depth c.args.by (built.part side.First c.args.e.now)) c.get-in-Product.ensures) (c.in_ok-second-in-Product.ensures ∙ ap (λ b. (narrowed b).has c.args.depth c.args.by (built.part side.Second c.args.e.now)) c.get-in-Product-2.ensures)) c.both.ensures
 
 pub has-returns-in_ok-high-in-Interval : goal.has-returns-in_ok-high-in-Interval
 has-returns-in_ok-high-in-Interval t c = subst (λ z. IfOk c.is_between.result (λ o. o ≡ z)) (interval_has c.args.form.now c.in-Binary.left c.in-Binary.right c.in-Binary.operator c.args.depth c.args.by c.args.e.now c.in_ok-low-in-Interval.low c.in_ok-high-in-Interval.high c.in-Binary.is (kind_is c.in-Binary.operator c.in-Binary.left c.in-Binary.right c.get-in-Binary.result.now c.get-in-Binary-2.result.now c.kind_at.result (of.Interval) c.get-in-Binary.ensures c.get-in-Binary-2.ensures c.kind_at.ensures c.in-Interval.is) (c.in_ok-low-in-Interval.ensures ∙ ap (λ a. shift c.args.depth c.args.by ((narrowed a).term c.args.depth)) c.get-in-Interval.ensures) (c.in_ok-high-in-Interval.ensures ∙ ap (λ b. shift c.args.depth c.args.by ((narrowed b).term c.args.depth)) c.get-in-Interval-2.ensures)) c.is_between.ensures
@@ -94,28 +96,28 @@ pub has_members-returns : goal.has_members-returns
 has_members-returns t c = subst (λ z. IfOk c.joined.result (λ o. o ≡ z)) (ap₂ step.joined c.in_ok-given.ensures c.in_ok-no_other.ensures ∙ members_are c.args.form.now c.args.depth c.args.by c.args.e.now (sym c.is_form.ensures ∙ c.if-not-is_form.false) (sym c.is_integers.ensures ∙ c.if-is_integers.false)) c.joined.ensures
 
 pub has_more-returns-then-is_form : goal.has_more-returns-then-is_form
-has_more-returns-then-is_form t c = subst (λ z. IfOk c.has_members.result (λ o. o ≡ z)) (ap (λ b. if b then ((narrowed c.args.form.now).has_members c.args.depth 0 c.args.e.now) else (narrow.conjunction (narrow.subset c.args.e.now ((narrowed c.args.form.now).term c.args.depth)) (narrow.negation (narrow.equal c.args.e.now ((narrowed c.args.form.now).term c.args.depth))))) (sym c.if-is_form.true ∙ c.is_form.ensures)) c.has_members.ensures
+has_more-returns-then-is_form t c = subst (λ z. IfOk c.has_members.result (λ o. o ≡ z)) (ap (λ b. if b then ((narrowed c.args.form.now).has_members c.args.depth 0 c.args.e.now) else (built.conjunction (built.subset c.args.e.now ((narrowed c.args.form.now).term c.args.depth)) (built.negation (built.equal c.args.e.now ((narrowed c.args.form.now).term c.args.depth))))) (sym c.if-is_form.true ∙ c.is_form.ensures)) c.has_members.ensures
 
 pub has_more-returns-in_ok-set : goal.has_more-returns-in_ok-set
-has_more-returns-in_ok-set t c = subst (λ z. IfOk c.proper_subset.result (λ o. o ≡ z)) (ap (λ s. narrow.conjunction (narrow.subset c.args.e.now s) (narrow.negation (narrow.equal c.args.e.now s))) c.in_ok-set.ensures ∙ ap (λ b. if b then ((narrowed c.args.form.now).has_members c.args.depth 0 c.args.e.now) else (narrow.conjunction (narrow.subset c.args.e.now ((narrowed c.args.form.now).term c.args.depth)) (narrow.negation (narrow.equal c.args.e.now ((narrowed c.args.form.now).term c.args.depth))))) (sym c.if-is_form.false ∙ c.is_form.ensures)) c.proper_subset.ensures
+has_more-returns-in_ok-set t c = subst (λ z. IfOk c.proper_subset.result (λ o. o ≡ z)) (ap (λ s. built.conjunction (built.subset c.args.e.now s) (built.negation (built.equal c.args.e.now s))) c.in_ok-set.ensures ∙ ap (λ b. if b then ((narrowed c.args.form.now).has_members c.args.depth 0 c.args.e.now) else (built.conjunction (built.subset c.args.e.now ((narrowed c.args.form.now).term c.args.depth)) (built.negation (built.equal c.args.e.now ((narrowed c.args.form.now).term c.args.depth))))) (sym c.if-is_form.false ∙ c.is_form.ensures)) c.proper_subset.ensures
 
 pub has_no_other-returns : goal.has_no_other-returns
-has_no_other-returns t c = subst (λ z. IfOk c.none_is_out.result (λ o. o ≡ z)) (ap (λ q. narrow.negation (term.over binder.Exists c.args.e.now (narrow.negation q))) (c.in_ok-is_in.ensures ∙ ap₂ (λ k m. (narrowed c.args.form.now).has c.args.depth k m) c.in_ok-by.ensures (c.in_ok-member.ensures ∙ ap (narrow.whole (c.args.depth + c.args.by)) c.in_ok-ty.ensures))) c.none_is_out.ensures
+has_no_other-returns t c = subst (λ z. IfOk c.none_is_out.result (λ o. o ≡ z)) (ap (λ q. built.negation (term.over binder.Exists c.args.e.now (built.negation q))) (c.in_ok-is_in.ensures ∙ ap₂ (λ k m. (narrowed c.args.form.now).has c.args.depth k m) c.in_ok-by.ensures (c.in_ok-member.ensures ∙ ap (built.whole (c.args.depth + c.args.by)) c.in_ok-ty.ensures))) c.none_is_out.ensures
 
 pub is_all-returns-then-not-is_form : goal.is_all-returns-then-not-is_form
 is_all-returns-then-not-is_form t c = subst (λ z. IfOk c.beside.result (λ o. o ≡ z)) (all_beside c.args.form.now c.args.depth c.args.by c.args.e.now (sym c.is_form.ensures ∙ c.if-not-is_form.true)) c.beside.ensures
 
 pub is_all-returns : goal.is_all-returns
-is_all-returns t c = subst (λ z. IfOk c.joined.result (λ o. o ≡ z)) (ap₂ step.joined c.in_ok-given.ensures (c.in_ok-never.ensures ∙ ap narrow.negation c.in_ok-is_defined.ensures) ∙ all_are c.args.form.now c.args.depth c.args.by c.args.e.now (sym c.is_form.ensures ∙ c.if-not-is_form.false)) c.joined.ensures
+is_all-returns t c = subst (λ z. IfOk c.joined.result (λ o. o ≡ z)) (ap₂ step.joined c.in_ok-given.ensures (c.in_ok-never.ensures ∙ ap built.negation c.in_ok-is_defined.ensures) ∙ all_are c.args.form.now c.args.depth c.args.by c.args.e.now (sym c.is_form.ensures ∙ c.if-not-is_form.false)) c.joined.ensures
 
 pub many_at-returns-in-Extension : goal.many_at-returns-in-Extension
 many_at-returns-in-Extension t c = c.many.ensures ∙ (ap₂ (λ o ts. term.many o ts) c.in-Extension.is c.in_ok-terms.ensures ∙ ap (λ o. (narrow.by_many o None (map narrowed c.args.parts.now)).term c.args.depth) (sym c.in-Extension.is))
 
-pub many_at-returns-in-Partition : goal.many_at-returns-in-Partition
-many_at-returns-in-Partition t c = subst (λ z. IfOk c.partition.result (λ o. o ≡ z)) (ap₂ narrow.partition (first_type_is c.args.parts.now) c.in_ok-terms.ensures ∙ ap (λ o. (narrow.by_many o None (map narrowed c.args.parts.now)).term c.args.depth) (sym c.in-Partition.is)) c.partition.ensures
+pub many_at-returns-in_ok-ty-in-Partition : goal.many_at-returns-in_ok-ty-in-Partition
+many_at-returns-in_ok-ty-in-Partition t c = subst (λ z. IfOk c.partition.result (λ o. o ≡ z)) (ap₂ built.partition (c.in_ok-ty-in-Partition.ensures ∙ first_type_is c.args.parts.now) c.in_ok-terms.ensures ∙ ap (λ o. (narrow.by_many o None (map narrowed c.args.parts.now)).term c.args.depth) (sym c.in-Partition.is)) c.partition.ensures
 
 pub nonempty_has_members-returns : goal.nonempty_has_members-returns
-nonempty_has_members-returns t c = subst (λ z. IfOk c.both.result (λ o. o ≡ z)) (ap (λ n. narrow.both c.in_ok-all.all n) c.in_ok-nonempty.ensures ∙ nonempty_is c.args.form.now c.in_ok-all.all c.in_ok-ty.ty c.args.depth c.args.by c.args.e.now c.in_ok-all.ensures c.in_ok-ty.ensures) c.both.ensures
+nonempty_has_members-returns t c = subst (λ z. IfOk c.both.result (λ o. o ≡ z)) (ap (λ n. built.both c.in_ok-all.all n) c.in_ok-nonempty.ensures ∙ nonempty_is c.args.form.now c.in_ok-all.all c.in_ok-ty.ty c.args.depth c.args.by c.args.e.now c.in_ok-all.ensures c.in_ok-ty.ensures) c.both.ensures
 
 pub part_has-returns : goal.part_has-returns
 part_has-returns t c = subst (λ z. IfOk c.has.result (λ o. o ≡ z)) (ap (λ e. (narrowed c.args.form.now).has c.args.depth c.args.by e) c.in_ok-e.ensures) c.has.ensures

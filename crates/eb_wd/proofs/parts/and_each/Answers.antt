@@ -1,7 +1,7 @@
 use Rattle.std.proofs.Common.{◌≡◌, ◌∙◌, ◌<◌, ◌+◌, ℕ, List, [], ◌∷◌, length, get_or, take, sym, ap}
 use Rattle.std.proofs.lemmas.List.{take_more}
 use Rattle.eb_term.specs.declared.term.Term.{Term}
-use Rattle.eb_narrow.specs.Narrow.{conjunction}
+use Rattle.narrow_terms.specs.Building.{conjunction}
 use Rattle.eb_wd.specs.WellDefined as spec
 use Rattle.eb_wd.proofs.WellDefinedAt.{and_values, and_append}
 use Rattle.eb_wd.proofs.parts.and_each.Goals as goal

@@ -1,0 +1,11 @@
+pub mod TypeInduction
+pub mod Counting
+pub mod Typings
+pub mod Elements
+pub mod Ranges
+pub mod Tables
+pub mod Bindings
+pub mod Naming
+pub mod Distinctness
+pub mod TextSets
+pub mod Noted

@@ -1,0 +1,7 @@
+mod LoweredRows
+mod LeafLaws
+mod AnchorLaws
+mod BindingLaws
+mod PlaceLaws
+mod UsesRows
+mod LoweringLaws

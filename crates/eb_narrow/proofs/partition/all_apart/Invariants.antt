@@ -1,6 +1,0 @@
-use Rattle.std.proofs.Common.{◌≡◌, drop}
-use Rattle.eb_narrow.specs.steps.Partition.{all_apart}
-use Rattle.eb_narrow.proofs.partition.all_apart.Given as goal
-
-abbrev pub invariant-loop-set : goal.invariant-loop-set
-invariant-loop-set l = all_apart l.ty l.apart (drop l.set-index l.others) ≡ all_apart l.ty l.initial.apart l.others

@@ -1,0 +1,3 @@
+-- Means of proof: no public clause names what stands here.
+pub mod Partitions
+pub mod Shifting

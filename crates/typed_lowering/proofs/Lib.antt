@@ -1,0 +1,11 @@
+mod FormulaInduction
+mod Judging
+mod Identifiers
+mod Binding
+mod Marks
+mod Formulas
+mod Lowering
+mod TypedTerms
+mod FittingTerms
+mod ModelFormulas
+mod TermLaws

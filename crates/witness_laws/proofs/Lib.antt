@@ -1,0 +1,4 @@
+mod Alike
+mod Hypotheses
+mod Known
+mod Lowered
