@@ -1,0 +1,11 @@
+pub mod BodyLaws
+pub mod MeetLaws
+pub mod ListLaws
+pub mod NormalLaws
+pub mod DomainLaws
+pub mod Among
+pub mod TypeInduction
+pub mod WholeLaws
+pub mod SingleLaws
+pub mod TestLaws
+pub mod PartLaws

@@ -1,0 +1,15 @@
+//! What a predicate may be, and which values an expression may have.
+//!
+//! `specs/Bodies` says which values a body has, `specs/Domains` what a domain has.
+#![tactic(auto)]
+
+mod body;
+mod domain;
+mod meets;
+mod tests;
+mod wholes;
+
+pub use body::Body;
+pub use domain::{Domain, Truths, is_empty, meet, single};
+pub use tests::{Test, parts};
+pub use wholes::{first, whole};
