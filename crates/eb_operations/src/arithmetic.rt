@@ -1,4 +1,4 @@
-//! The arithmetic of Event-B.
+//! The arithmetic of Event-B (Métayer and Voisin, 2009), on the integers of a range.
 ghost use Rattle.std.specs.Prelude.{◌≡◌, ◌+ℤ◌, ◌-ℤ◌, ◌*ℤ◌, ◌≤ℤ◌, option_map, pos, unsigned_abs};
 ghost use Rattle.eb_value.specs.Values.{int};
 ghost use Rattle.std.specs.Int.{int_pow};
@@ -17,7 +17,8 @@ fn defined_int(n: i64) -> Option<i64>
     }
 }
 
-pub(crate) fn sum(m: i64, n: i64) -> Option<i64>
+/// `m + n`, where that is within -2 ^ 62 .. 2 ^ 62, and None exactly otherwise.
+pub fn sum(m: i64, n: i64) -> Option<i64>
     ensures { option_map int result ≡ spec.defined_int (m +ℤ n) }
 {
     match m.checked_add(n) {
@@ -26,7 +27,8 @@ pub(crate) fn sum(m: i64, n: i64) -> Option<i64>
     }
 }
 
-pub(crate) fn difference(m: i64, n: i64) -> Option<i64>
+/// `m - n`, where that is within -2 ^ 62 .. 2 ^ 62, and None exactly otherwise.
+pub fn difference(m: i64, n: i64) -> Option<i64>
     ensures { option_map int result ≡ spec.defined_int (m -ℤ n) }
 {
     match m.checked_sub(n) {
@@ -35,7 +37,8 @@ pub(crate) fn difference(m: i64, n: i64) -> Option<i64>
     }
 }
 
-pub(crate) fn product(m: i64, n: i64) -> Option<i64>
+/// `m * n`, where that is within -2 ^ 62 .. 2 ^ 62, and None exactly otherwise.
+pub fn product(m: i64, n: i64) -> Option<i64>
     ensures { option_map int result ≡ spec.defined_int (m *ℤ n) }
 {
     match m.checked_mul(n) {
@@ -44,8 +47,8 @@ pub(crate) fn product(m: i64, n: i64) -> Option<i64>
     }
 }
 
-/// `m / n`, truncated towards zero.
-pub(crate) fn quotient(m: i64, n: i64) -> Option<i64>
+/// `m / n`, truncated towards zero. None exactly where `n` is 0 or the quotient is outside -2 ^ 62 .. 2 ^ 62.
+pub fn quotient(m: i64, n: i64) -> Option<i64>
     ensures { option_map int result ≡ spec.quotient m n }
 {
     if n == 0 {
@@ -57,15 +60,15 @@ pub(crate) fn quotient(m: i64, n: i64) -> Option<i64>
     }
 }
 
-/// `m mod n`
-pub(crate) fn remainder(m: i64, n: i64) -> Option<i64>
+/// `m mod n`. None exactly unless `0 <= m` and `0 < n`.
+pub fn remainder(m: i64, n: i64) -> Option<i64>
     ensures { option_map int result ≡ spec.remainder m n }
 {
     if 0 <= m && 0 < n { Some(m % n) } else { None }
 }
 
-/// `m ^ n`
-pub(crate) fn power(m: i64, n: i64) -> Option<i64>
+/// `m ^ n`. None exactly unless `0 <= m`, `0 <= n` and the power is at most 2 ^ 62.
+pub fn power(m: i64, n: i64) -> Option<i64>
     ensures { option_map int result ≡ spec.power m n }
 {
     if m < 0 || n < 0 {

@@ -9,6 +9,7 @@ mod predicates;
 mod sets;
 mod truth3;
 
+pub use arithmetic::{difference, power, product, quotient, remainder, sum};
 pub use operations::{
     bool_of, called_on, converse, empty_set, negated, operation, part_at, part_copied, set_of_side,
     set_with, sides, union_of,

@@ -11,7 +11,7 @@ use Rattle.occ_domains.specs.declared.body.Body.{Body, Body-F, out-Body, map-Bod
 use Rattle.occ_domains.specs.declared.body.Body.TheViews.{roll-Body}
 use Rattle.occ_domains.specs.declared.body.Body.TheOpen as body
 use Rattle.occ_domains.specs.declared.body.Body.TheVariants as of
-use Rattle.occ_domains.specs.Bodies.{is_plain_layer, has_step, has, is_empty, is_empty_layer, integers, members, pairs}
+use Rattle.occ_domains.specs.Bodies.{is_plain_layer, has_step, has, has_at, is_empty, is_empty_layer, integers, members, pairs}
 
 -- ---- induction
 
@@ -70,13 +70,6 @@ pub out-sets : out-Body of.AllSets ≡ body.AllSets
 out-sets = search (rules, the_lemmas)
 
 -- ---- what a layer has
-
-abbrev pub has_at : Body-F Body → Value → Layer → Bool
-has_at body.Empty v y = false
-has_at (body.Integers d) v y = has_step (body.Integers d) v y
-has_at (body.Members xs) v y = is_plain_layer y && is_among xs v
-has_at (body.Pairs a b) v y = has_step (body.Pairs (has a) (has b)) v y
-has_at body.AllSets v y = has_step body.AllSets v y
 
 pub has_out : (b : Body) (v : Value) → has b v ≡ has_at (out-Body b) v (layer v)
 has_out = ind_body (λ b. (v : Value) → has b v ≡ has_at (out-Body b) v (layer v)) (record {

@@ -9,3 +9,6 @@ pub mod WholeLaws
 pub mod SingleLaws
 pub mod TestLaws
 pub mod PartLaws
+pub mod AloneLaws
+pub mod RemovalLaws
+pub mod ExactLaws

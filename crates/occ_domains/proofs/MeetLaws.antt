@@ -14,8 +14,8 @@ use Rattle.int_dom.specs.declared.interval.Interval.{Interval}
 use Rattle.occ_domains.specs.declared.body.Body.{Body, Body-F, out-Body, the_lemmas}
 use Rattle.occ_domains.specs.declared.body.Body.TheOpen as body
 use Rattle.occ_domains.specs.declared.body.Body.TheVariants as of
-use Rattle.occ_domains.specs.Bodies.{is_plain_layer, has_step, has, common, meet, meet_step}
-use Rattle.occ_domains.proofs.BodyLaws.{ind_body, has_at, has_out, has-empty, has-integers, has-members, has-pairs, has-sets, integers_have, members_have, pairs_have, and_false}
+use Rattle.occ_domains.specs.Bodies.{is_plain_layer, has_step, has, has_at, common, meet, meet_step}
+use Rattle.occ_domains.proofs.BodyLaws.{ind_body, has_out, has-empty, has-integers, has-members, has-pairs, has-sets, integers_have, members_have, pairs_have, and_false}
 
 -- the order tells values apart
 abbrev pub Exact : Type 0

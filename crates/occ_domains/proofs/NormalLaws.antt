@@ -1,5 +1,5 @@
 -- Bodies in normal form: they have a value unless they are empty, and meets keep them.
-use Rattle.std.proofs.Common.{◌≡◌, ◌∙◌, Bool, true, false, not, ◌&&◌, ◌||◌, ℤ, int_le, List, [], ◌∷◌, filter, refl, sym, ap, arith, rules}
+use Rattle.std.proofs.Common.{subst, ◌≡◌, ◌∙◌, Bool, true, false, not, ◌&&◌, ◌||◌, ℤ, int_le, List, [], ◌∷◌, filter, refl, sym, ap, arith, rules}
 use Rattle.std.specs.List.{list_all}
 use Rattle.std.specs.Cmp.{first_so, second_so}
 use Rattle.std.specs.declared.cmp.Ordering.TheVariants.{Equal}
@@ -17,7 +17,7 @@ use Rattle.occ_domains.specs.declared.body.Body.TheVariants as of
 use Rattle.occ_domains.specs.Bodies.{is_plain, is_plain_layer, has, is_empty, is_empty_layer, is_list, is_filled, is_normal, integers, members, pairs, common, meet, meet_step}
 use Rattle.occ_domains.proofs.ListLaws.{Transitive, both_so, all_filter, ascending_filter}
 use Rattle.occ_domains.proofs.MeetLaws.{meet-empty, meet-integers, meet-members, meet-pairs, meet-sets}
-use Rattle.occ_domains.proofs.BodyLaws.{ind_body, has-integers, has-members, has-pairs, has-sets, out-empty, out-members, out-pairs}
+use Rattle.occ_domains.proofs.BodyLaws.{ind_body, has-integers, has-members, has-pairs, has-sets, out-empty, out-members, out-pairs, out-integers, out-sets}
 
 -- ---- at the constructors
 
@@ -179,3 +179,21 @@ meet_normal transitive = ind_body (λ a. is_normal a ≡ true → (b : Body) →
       rw (meet-pairs a c b) (keep_pairs a c (p (filled_normal a parts.0)) (q (filled_normal c parts.1)) (out-Body b));
   sets = λ h b. rw (meet-sets b) (keep_sets (out-Body b));
 })
+
+-- the parts of pairs in normal form are in normal form
+pub normal_parts : (b x y : Body) → is_normal b ≡ true → out-Body b ≡ body.Pairs x y → (is_normal x ≡ true) × (is_normal y ≡ true)
+normal_parts = ind_body (λ b. (x y : Body) → is_normal b ≡ true → out-Body b ≡ body.Pairs x y → (is_normal x ≡ true) × (is_normal y ≡ true)) (record {
+  none = λ x y h e. let k : body.Empty ≡ body.Pairs x y = sym out-empty ∙ e in cc;
+  integers = λ d x y h e. let k : body.Integers d ≡ body.Pairs x y = sym (out-integers d) ∙ e in cc;
+  members = λ xs x y h e. let k : body.Members xs ≡ body.Pairs x y = sym (out-members xs) ∙ e in cc;
+  pairs = λ a c p q x y h e.
+      let k : body.Pairs a c ≡ body.Pairs x y = sym (out-pairs a c) ∙ e in
+      let n = normal_pairs a c h in
+      (subst (λ z. is_normal z ≡ true) (first_is a c x y k) (filled_normal a n.0), subst (λ z. is_normal z ≡ true) (second_is a c x y k) (filled_normal c n.1));
+  sets = λ x y h e. let k : body.AllSets ≡ body.Pairs x y = sym out-sets ∙ e in cc;
+}) where
+  first_is : (a c x y : Body) → body.Pairs a c ≡ body.Pairs x y → a ≡ x
+  first_is a c x y e = cc
+
+  second_is : (a c x y : Body) → body.Pairs a c ≡ body.Pairs x y → c ≡ y
+  second_is a c x y e = cc

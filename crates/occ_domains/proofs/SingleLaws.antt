@@ -25,25 +25,25 @@ use Rattle.occ_domains.proofs.TypeInduction.{by_kind}
 
 -- ---- at the constructors
 
-single-empty : single of.Empty ≡ None
+pub single-empty : single of.Empty ≡ None
 single-empty = search (rules, the_lemmas)
 
-single-integers : (d : Interval) → single (of.Integers d) ≡ single_integer d
+pub single-integers : (d : Interval) → single (of.Integers d) ≡ single_integer d
 single-integers d = search (rules, the_lemmas)
 
-single-members : (xs : List Value) → single (of.Members xs) ≡ single_member xs
+pub single-members : (xs : List Value) → single (of.Members xs) ≡ single_member xs
 single-members xs = search (rules, the_lemmas)
 
-single-pairs : (a b : Body) → single (of.Pairs a b) ≡ single_pair (single a) (single b)
+pub single-pairs : (a b : Body) → single (of.Pairs a b) ≡ single_pair (single a) (single b)
 single-pairs a b = search (rules, the_lemmas)
 
-single-sets : single of.AllSets ≡ None
+pub single-sets : single of.AllSets ≡ None
 single-sets = search (rules, the_lemmas)
 
-layer-truth : (b : Bool) → layer (truth b) ≡ val.Bool b
+pub layer-truth : (b : Bool) → layer (truth b) ≡ val.Bool b
 layer-truth b = search (rules, value_module.the_lemmas)
 
-layer-atom : (s k : ℕ) → layer (atom s k) ≡ val.Atom s k
+pub layer-atom : (s k : ℕ) → layer (atom s k) ≡ val.Atom s k
 layer-atom s k = search (rules, value_module.the_lemmas)
 
 number_in : Layer → ℤ
@@ -79,12 +79,12 @@ other_set e =
 
 -- ---- values by kind
 
-record AnInteger (d : Interval) (v : Value) : Type 0 where
-  number : ℤ
-  is : v ≡ int number
-  within : (int_le d.lo number && int_le number d.hi) ≡ true
+pub record AnInteger (d : Interval) (v : Value) : Type 0 where
+  pub number : ℤ
+  pub is : v ≡ int number
+  pub within : (int_le d.lo number && int_le number d.hi) ≡ true
 
-integer_of : (d : Interval) (v : Value) → has_step (body.Integers d) v (layer v) ≡ true → AnInteger d v
+pub integer_of : (d : Interval) (v : Value) → has_step (body.Integers d) v (layer v) ≡ true → AnInteger d v
 integer_of d = by_kind (λ v. has_step (body.Integers d) v (layer v) ≡ true → AnInteger d v) (record {
   int = λ n h. record { number = n; is = refl; within = sym (ap (has_step (body.Integers d) (int n)) (layer-int n)) ∙ h };
   truth = λ b h. let k : false ≡ true = sym (ap (has_step (body.Integers d) (truth b)) (layer-truth b)) ∙ h in cc;
@@ -93,14 +93,14 @@ integer_of d = by_kind (λ v. has_step (body.Integers d) v (layer v) ≡ true �
   set = λ xs h. let k : false ≡ true = sym (ap (has_step (body.Integers d) (set xs)) (layer-set xs)) ∙ h in cc;
 })
 
-record APair (f g : Value → Bool) (v : Value) : Type 0 where
-  first : Value
-  second : Value
-  is : v ≡ pair first second
-  first_in : f first ≡ true
-  second_in : g second ≡ true
+pub record APair (f g : Value → Bool) (v : Value) : Type 0 where
+  pub first : Value
+  pub second : Value
+  pub is : v ≡ pair first second
+  pub first_in : f first ≡ true
+  pub second_in : g second ≡ true
 
-pair_of : (f g : Value → Bool) (v : Value) → has_step (body.Pairs f g) v (layer v) ≡ true → APair f g v
+pub pair_of : (f g : Value → Bool) (v : Value) → has_step (body.Pairs f g) v (layer v) ≡ true → APair f g v
 pair_of f g = by_kind (λ v. has_step (body.Pairs f g) v (layer v) ≡ true → APair f g v) (record {
   int = λ n h. let k : false ≡ true = sym (ap (has_step (body.Pairs f g) (int n)) (layer-int n)) ∙ h in cc;
   truth = λ b h. let k : false ≡ true = sym (ap (has_step (body.Pairs f g) (truth b)) (layer-truth b)) ∙ h in cc;
@@ -111,13 +111,13 @@ pair_of f g = by_kind (λ v. has_step (body.Pairs f g) v (layer v) ≡ true → 
   set = λ xs h. let k : false ≡ true = sym (ap (has_step (body.Pairs f g) (set xs)) (layer-set xs)) ∙ h in cc;
 })
 
-has_int : (d : Interval) (n : ℤ) → (int_le d.lo n && int_le n d.hi) ≡ true → has (of.Integers d) (int n) ≡ true
+pub has_int : (d : Interval) (n : ℤ) → (int_le d.lo n && int_le n d.hi) ≡ true → has (of.Integers d) (int n) ≡ true
 has_int d n h = has-integers d (int n) ∙ ap (has_step (body.Integers d) (int n)) (layer-int n) ∙ h
 
-has_pair : (a b : Body) (x y : Value) → has a x ≡ true → has b y ≡ true → has (of.Pairs a b) (pair x y) ≡ true
+pub has_pair : (a b : Body) (x y : Value) → has a x ≡ true → has b y ≡ true → has (of.Pairs a b) (pair x y) ≡ true
 has_pair a b x y h k = has-pairs a b (pair x y) ∙ ap (has_step (body.Pairs (has a) (has b)) (pair x y)) (layer-pair x y) ∙ both_so (has a x) (has b y) h k
 
-has_set : (xs : List Value) → has of.AllSets (set xs) ≡ true
+pub has_set : (xs : List Value) → has of.AllSets (set xs) ≡ true
 has_set xs = has-sets (set xs) ∙ ap (has_step body.AllSets (set xs)) (layer-set xs)
 
 -- ---- the law
@@ -129,10 +129,10 @@ Only b v = (w : Value) → (has b w ≡ true) ↔ (w ≡ v)
 abbrev One : Body → Type 0
 One b = is_filled b ≡ true → (v : Value) → (single b ≡ Some v) ↔ Only b v
 
-some_of : {A : Type 0} (x y : A) → Some x ≡ Some y → x ≡ y
+pub some_of : {A : Type 0} (x y : A) → Some x ≡ Some y → x ≡ y
 some_of x y e = cc
 
-one_number : (d : Interval) (n : ℤ) → int_eq d.lo d.hi ≡ true → (int_le d.lo n && int_le n d.hi) ≡ true → n ≡ d.lo
+pub one_number : (d : Interval) (n : ℤ) → int_eq d.lo d.hi ≡ true → (int_le d.lo n && int_le n d.hi) ≡ true → n ≡ d.lo
 one_number d n h k = grind (arith, ints)
 
 low_end : (d : Interval) → not (interval.is_empty d) ≡ true → (int_le d.lo d.lo && int_le d.lo d.hi) ≡ true
@@ -150,7 +150,7 @@ only_integer d f h w = (
   λ e. ap (has (of.Integers d)) e ∙ has_int d d.lo (low_end d f),
 )
 
-single_there : (d : Interval) (v : Value) (b : Bool) → int_eq d.lo d.hi ≡ b → single_integer d ≡ Some v → (int_eq d.lo d.hi ≡ true) × (int d.lo ≡ v)
+pub single_there : (d : Interval) (v : Value) (b : Bool) → int_eq d.lo d.hi ≡ b → single_integer d ≡ Some v → (int_eq d.lo d.hi ≡ true) × (int d.lo ≡ v)
 single_there d v true e h = (e, let k : single_integer d ≡ Some (int d.lo) = rw e refl in some_of (int d.lo) v (sym k ∙ h))
 single_there d v false e h = let k : single_integer d ≡ None = rw e refl in let l : None ≡ Some v = sym k ∙ h in cc
 
@@ -169,7 +169,7 @@ one_integers d f v =
 plain_first : (x : Value) (xs : List Value) → is_list (x ∷ xs) ≡ true → is_plain x ≡ true
 plain_first x xs h = first_so (is_plain x) (list_all is_plain xs) (second_so (is_ascending (x ∷ xs)) (list_all is_plain (x ∷ xs)) h)
 
-or_false : (b : Bool) → (b || false) ≡ true → b ≡ true
+pub or_false : (b : Bool) → (b || false) ≡ true → b ≡ true
 or_false true h = refl
 or_false false h = h
 

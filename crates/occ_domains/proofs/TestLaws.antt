@@ -16,9 +16,9 @@ use Rattle.occ_domains.specs.declared.body.Body.{Body, Body-F, out-Body}
 use Rattle.occ_domains.specs.declared.body.Body.TheOpen as body
 use Rattle.occ_domains.specs.declared.tests.Test.{Test}
 use Rattle.occ_domains.specs.declared.tests.Test.TheVariants as test
-use Rattle.occ_domains.specs.Bodies.{is_plain_layer, has_step, has, integers, members}
+use Rattle.occ_domains.specs.Bodies.{is_plain_layer, has_step, has, has_at, integers, members}
 use Rattle.occ_domains.specs.Tests.{is_at_most, in_part, holds_at, fits_layer, fits_leaf, fits_in, fits_at, is_kept, body_of, cut, is_alike, leaf_layer, leaf, changed_in, changed_at}
-use Rattle.occ_domains.proofs.BodyLaws.{has_at, has_out, integers_have, members_have, pairs_have}
+use Rattle.occ_domains.proofs.BodyLaws.{has_out, integers_have, members_have, pairs_have}
 use Rattle.occ_domains.proofs.MeetLaws.{Exact, same_is}
 
 -- ---- at the end of the path
@@ -59,7 +59,7 @@ and_turned true false true = refl
 and_turned true false false = refl
 and_turned false q r = refl
 
-alike_has : Exact → (keep : Bool) (u : Value) (xs : List Value) (v : Value) → has (members (filter (is_alike keep u) xs)) v ≡ ((is_plain_layer (layer v) && is_among xs v) && is_kept keep (same v u))
+pub alike_has : Exact → (keep : Bool) (u : Value) (xs : List Value) (v : Value) → has (members (filter (is_alike keep u) xs)) v ≡ ((is_plain_layer (layer v) && is_among xs v) && is_kept keep (same v u))
 alike_has exact keep u xs v =
     members_have (filter (is_alike keep u) xs) v
     ∙ ap (λ b. is_plain_layer (layer v) && b) (any-filter_same (same v) (is_alike keep u) (is_alike keep u v) (λ k h. ap (is_alike keep u) (sym (same_is exact v k h))) xs)

@@ -1,4 +1,4 @@
--- Induction over types, and cases of values, by the plain constructors.
+-- Induction over types and over the pairs of values, and cases of values, by the plain constructors.
 use Rattle.std.proofs.Common.{ℕ, ℤ, Bool, List, map, subst}
 use Rattle.eb_value.specs.declared.types.EbType.{EbType, ind-EbType}
 use Rattle.eb_value.specs.declared.types.Shape.{Shape, Shape-F, map-Shape}
@@ -46,6 +46,28 @@ KnownValue P = (v : Value) × P v
 abbrev KnownForm : (Value → Type 0) → Type 0
 KnownForm P = (f : Form) × P (roll-Value (record { form = f }))
 
+-- what the induction over the pairs of a value asks at each constructor
+pub record Parts (P : Value → Type 0) : Type 0 where
+  pub int : (n : ℤ) → P (value.int n)
+  pub truth : (b : Bool) → P (value.truth b)
+  pub atom : (s k : ℕ) → P (value.atom s k)
+  pub pair : (a b : Value) → P a → P b → P (value.pair a b)
+  pub set : (xs : List Value) → P (value.set xs)
+
+part : (P : Value → Type 0) → Parts P → (y : Form-F (KnownForm P) (KnownValue P)) → P (roll-Value (record { form = roll-Form (map-Form (KnownForm P) (KnownValue P) Form Value (λ e. e.0) (λ e. e.0) y) }))
+unfolding roll-Form denote.Hole.Carrier.roll
+part P s (val.Int n) = s.int n
+part P s (val.Bool b) = s.truth b
+part P s (val.Atom c k) = s.atom c k
+part P s (val.Pair a b) = s.pair a.0 b.0 a.1 b.1
+part P s (val.Set es) = s.set (map (λ e. e.0) es)
+
+pub by_pairs : (P : Value → Type 0) → Parts P → (v : Value) → P v
+by_pairs P s =
+    ind-Value (λ f. P (roll-Value (record { form = f }))) P
+    (λ x y is. subst (λ z. P (roll-Value (record { form = roll-Form z }))) is (part P s y))
+    (λ x y is. subst (λ z. P (roll-Value z)) is y.form.1)
+
 -- what a proof by kinds of values asks
 pub record Kinds (P : Value → Type 0) : Type 0 where
   pub int : (n : ℤ) → P (value.int n)
@@ -54,16 +76,5 @@ pub record Kinds (P : Value → Type 0) : Type 0 where
   pub pair : (a b : Value) → P (value.pair a b)
   pub set : (xs : List Value) → P (value.set xs)
 
-kind : (P : Value → Type 0) → Kinds P → (y : Form-F (KnownForm P) (KnownValue P)) → P (roll-Value (record { form = roll-Form (map-Form (KnownForm P) (KnownValue P) Form Value (λ e. e.0) (λ e. e.0) y) }))
-unfolding roll-Form denote.Hole.Carrier.roll
-kind P s (val.Int n) = s.int n
-kind P s (val.Bool b) = s.truth b
-kind P s (val.Atom c k) = s.atom c k
-kind P s (val.Pair a b) = s.pair a.0 b.0
-kind P s (val.Set es) = s.set (map (λ e. e.0) es)
-
 pub by_kind : (P : Value → Type 0) → Kinds P → (v : Value) → P v
-by_kind P s =
-    ind-Value (λ f. P (roll-Value (record { form = f }))) P
-    (λ x y is. subst (λ z. P (roll-Value (record { form = roll-Form z }))) is (kind P s y))
-    (λ x y is. subst (λ z. P (roll-Value z)) is y.form.1)
+by_kind P s = by_pairs P (record { int = s.int; truth = s.truth; atom = s.atom; pair = λ a b p q. s.pair a b; set = s.set })

@@ -254,10 +254,10 @@ first_alone exact complete scope low high t u v h = alone exact complete scope s
 
 -- ---- normal form
 
-plain-truth : (b : Bool) → is_plain (truth b) ≡ true
+pub plain-truth : (b : Bool) → is_plain (truth b) ≡ true
 plain-truth b = search (rules, the_lemmas)
 
-plain-atom : (s k : ℕ) → is_plain (atom s k) ≡ true
+pub plain-atom : (s k : ℕ) → is_plain (atom s k) ≡ true
 plain-atom s k = search (rules, the_lemmas)
 
 plain_atoms : (c k n : ℕ) → list_all is_plain (atoms_from c k n) ≡ true

@@ -1,11 +1,13 @@
 -- Which values a body has, and bodies in normal form.
-use Rattle.std.specs.Prelude.{Bool, true, false, not, ◌&&◌, ◌||◌, if◌then◌else◌, List, [], ◌∷◌, filter, Option, Some, None, int_le}
+use Rattle.std.specs.Prelude.{Bool, true, false, not, ◌&&◌, ◌||◌, if◌then◌else◌, List, [], ◌∷◌, filter, Option, Some, None, ℤ, pos, ◌+ℤ◌, ◌-ℤ◌, int_le}
 use Rattle.std.specs.Int.{int_min, int_max}
 use Rattle.std.specs.List.{list_all}
+use Rattle.std.specs.Ordering.{int_eq}
 use Rattle.eb_value.specs.declared.value.Value.{Value}
+use Rattle.eb_value.specs.declared.value.Form.{Form-F}
 use Rattle.eb_value.specs.declared.value.Form.TheOpen as val
-use Rattle.eb_value.specs.Values.{Layer, layer, int, pair, is_ascending}
-use Rattle.eb_value.specs.Comprehensions.{has as is_among}
+use Rattle.eb_value.specs.Values.{Layer, layer, by_parts, int, truth, atom, pair, is_ascending}
+use Rattle.eb_value.specs.Comprehensions.{has as is_among, same}
 use Rattle.int_dom.specs.declared.interval.Interval.{Interval}
 use Rattle.int_dom.specs.Intervals as interval
 use Rattle.occ_domains.specs.declared.body.Body.{Body, Body-F, out-Body, fold-Body}
@@ -31,6 +33,14 @@ has_step _ v y = false
 -- The integers of the interval; the truths and atoms of the list; the pairs of a value of each part; all sets.
 abbrev pub has : Body → Value → Bool
 has = fold-Body (Value → Bool) (λ s v. has_step s v (layer v))
+
+-- by one level of the body and one of the value
+abbrev pub has_at : Body-F Body → Value → Layer → Bool
+has_at body.Empty v y = false
+has_at (body.Integers d) v y = has_step (body.Integers d) v y
+has_at (body.Members xs) v y = is_plain_layer y && is_among xs v
+has_at (body.Pairs a b) v y = has_step (body.Pairs (has a) (has b)) v y
+has_at body.AllSets v y = has_step body.AllSets v y
 
 abbrev pub is_empty_layer : Body-F Body → Bool
 is_empty_layer body.Empty = true
@@ -109,3 +119,41 @@ single_step _ = None
 -- the one value of a body that has just one
 abbrev pub single : Body → Option Value
 single = fold-Body (Option Value) single_step
+
+abbrev pub exactly_step : Form-F Body Body → Body
+exactly_step (val.Int n) = of.Integers (record { lo = n; hi = n })
+exactly_step (val.Bool b) = of.Members (truth b ∷ [])
+exactly_step (val.Atom place number) = of.Members (atom place number ∷ [])
+exactly_step (val.Pair a b) = of.Pairs a b
+exactly_step (val.Set xs) = of.AllSets
+
+-- the least body with the value: of a set that is all sets
+abbrev pub exactly : Value → Body
+exactly = by_parts Body exactly_step
+
+-- ---- a body without a value, as far as a body can be
+
+-- the interval without an integer that is one of its ends
+abbrev pub but_for : ℤ → Interval → Interval
+but_for n d = if int_eq n d.lo then record { lo = d.lo +ℤ pos 1; hi = d.hi }
+    else if int_eq n d.hi then record { lo = d.lo; hi = d.hi -ℤ pos 1 }
+    else d
+
+abbrev pub without_number : Interval → Layer → Body
+without_number d (val.Int n) = integers (but_for n d)
+without_number d _ = of.Integers d
+
+abbrev pub without_integer : Interval → Value → Body
+without_integer d v = without_number d (layer v)
+
+abbrev pub is_other : Value → Value → Bool
+is_other v w = not (same w v)
+
+abbrev pub without_layer : Body-F Body → Value → Body → Body
+without_layer (body.Integers d) v b = without_integer d v
+without_layer (body.Members xs) v b = members (filter (is_other v) xs)
+without_layer _ v b = b
+
+-- a list without the value, or an interval without one of its ends; every other body as it is
+abbrev pub without : Body → Value → Body
+without b v = without_layer (out-Body b) v b

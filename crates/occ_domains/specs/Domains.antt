@@ -61,3 +61,8 @@ meet _ _ = nothing
 abbrev pub single : Domain → Option Value
 single (domain.Values b false) = values.single b
 single _ = None
+
+-- the least domain with what an expression is: a value, or Undefined
+abbrev pub only : Option Value → Domain
+only (Some v) = domain.Values (values.exactly v) false
+only None = domain.Values body.Empty true

@@ -1,7 +1,7 @@
 ghost use Rattle.std.specs.Prelude.{◌≡◌, IfOk};
 ghost use Rattle.occ_domains.specs.Bodies as spec;
 
-use crate::meets::is_among;
+use crate::meets::{is_among, meet_bodies};
 use eb_value::{Form, Value, Values, values_copied};
 use int_dom::Interval;
 use sqlite_items::Boxed;
@@ -31,6 +31,13 @@ impl Body {
         } else {
             Body::Integers(Interval { lo, hi })
         }
+    }
+
+    /// The integers of both intervals.
+    pub fn common(c: Interval, d: Interval) -> Body
+        ensures { result ≡ spec.integers (spec.common c d) }
+    {
+        Body::integers(c.lo.max(d.lo), c.hi.min(d.hi))
     }
 
     /// The values of a list.
@@ -100,8 +107,15 @@ impl Body {
         }
     }
 
+    /// What it has in common with another. The only error is want of memory.
+    pub fn meet(&self, alloc: Global, other: &Body) -> Result<Body, AllocError>
+        ensures { IfOk result (λ b. b ≡ spec.meet self.now other.now) }
+    {
+        meet_bodies(alloc, self, other)
+    }
+
     /// The one value, where the body has just one. The only error is want of memory.
-    pub(crate) fn single(&self, alloc: Global) -> Result<Option<Value>, AllocError>
+    pub fn single(&self, alloc: Global) -> Result<Option<Value>, AllocError>
         ensures { IfOk result (λ v. v ≡ spec.single self.now) }
     {
         match self {

@@ -5,11 +5,17 @@
 
 mod body;
 mod domain;
+mod exact;
+mod laws;
 mod meets;
+mod removal;
 mod tests;
 mod wholes;
 
 pub use body::Body;
 pub use domain::{Domain, Truths, is_empty, meet, single};
+pub use exact::only;
+pub use laws::bodies_have_their_values;
+pub use removal::without;
 pub use tests::{Test, parts};
-pub use wholes::{first, whole};
+pub use wholes::{first, is_without_sets, whole};

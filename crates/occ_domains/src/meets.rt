@@ -4,7 +4,6 @@ ghost use Rattle.eb_value.specs.Comprehensions as list;
 
 use crate::body::Body;
 use eb_value::{Value, Values, compare};
-use int_dom::Interval;
 use std::alloc::{AllocError, Global};
 
 /// What two bodies have in common. The only error is want of memory.
@@ -12,7 +11,7 @@ pub(crate) fn meet_bodies(alloc: Global, a: &Body, b: &Body) -> Result<Body, All
     ensures { IfOk result (λ body. body ≡ spec.meet a.now b.now) }
 {
     match (a, b) {
-        (Body::Integers(c), Body::Integers(d)) => Ok(common(*c, *d)),
+        (Body::Integers(c), Body::Integers(d)) => Ok(Body::common(*c, *d)),
         (Body::Members(xs), Body::Members(ys)) => {
             let both = kept(alloc, xs.as_slice(), ys.as_slice())?;
             Ok(Body::members(both))
@@ -25,12 +24,6 @@ pub(crate) fn meet_bodies(alloc: Global, a: &Body, b: &Body) -> Result<Body, All
         (Body::AllSets, Body::AllSets) => Ok(Body::AllSets),
         _ => Ok(Body::Empty),
     }
-}
-
-fn common(c: Interval, d: Interval) -> Body
-    ensures { result ≡ spec.integers (spec.common c d) }
-{
-    Body::integers(c.lo.max(d.lo), c.hi.min(d.hi))
 }
 
 /// The values of a list that another has too.

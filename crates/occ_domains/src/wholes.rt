@@ -82,3 +82,16 @@ fn spanned(alloc: Global, ty: &EbType, d: Interval, scope: &Scope) -> Result<Bod
         Shape::Power(_) => Ok(Body::AllSets),
     }
 }
+
+/// Whether no part of the type is a type of sets.
+pub fn is_without_sets(ty: &EbType) -> bool
+    ensures { result ≡ spec.is_without_sets ty.now }
+{
+    match &ty.shape {
+        Shape::Integer | Shape::Bool | Shape::Carrier(_) => true,
+        Shape::Product(first, second) => {
+            is_without_sets(first.get()) && is_without_sets(second.get())
+        }
+        Shape::Power(_) => false,
+    }
+}

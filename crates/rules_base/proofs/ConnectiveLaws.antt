@@ -1,5 +1,5 @@
 -- What the rows of connectives have.
-use Rattle.std.proofs.Common.{◌≡◌, refl, Bool, true, false, ◌&&◌, rules}
+use Rattle.std.proofs.Common.{◌≡◌, refl, Bool, true, ◌&&◌, rules}
 use Rattle.eb_operations.specs.declared.truth3.Truth3.{Truth3}
 use Rattle.eb_operations.specs.declared.truth3.Truth3.TheVariants.{True, False, Undefined}
 use Rattle.eb_term.specs.declared.operators.Side.{Side}
@@ -13,7 +13,7 @@ some_at a passes True h k = search (rules, h, k)
 some_at a passes False h k = search (rules, h, k)
 some_at a passes Undefined h k = search (rules, h, k)
 
-those_at : (passes : Truth3 → Bool) (x : Truth3) → passes x ≡ true → has_truth (those passes) x ≡ true
+pub those_at : (passes : Truth3 → Bool) (x : Truth3) → passes x ≡ true → has_truth (those passes) x ≡ true
 those_at passes True h = h
 those_at passes False h = h
 those_at passes Undefined h = h

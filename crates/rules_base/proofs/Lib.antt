@@ -1,1 +1,7 @@
 pub mod ConnectiveLaws
+pub mod Known
+pub mod UnaryLaws
+pub mod UpLaws
+pub mod DownLaws
+pub mod NormalLaws
+pub mod MeaningLaws

@@ -5,7 +5,7 @@ use eb_operations::{Truth3, connective};
 use eb_syntax::Operator;
 
 /// A connective of two predicates in narrow form.
-#[derive(Clone, Copy, Debug, PartialEq, Eq)]
+#[derive(Clone, Copy)]
 pub enum Connective {
     And,
     Or,

@@ -1,7 +1,5 @@
 //! The rows of connectives.
-ghost use Rattle.std.specs.Prelude.{◌≡◌, true};
-ghost use Rattle.eb_operations.specs.declared.truth3.Truth3.{Truth3 as TheTruth};
-ghost use Rattle.eb_operations.specs.Truths.{negation};
+ghost use Rattle.std.specs.Prelude.{◌≡◌};
 ghost use Rattle.occ_domains.specs.Domains.{has_truth};
 ghost use Rattle.rules_base.specs.Connectives as spec;
 
@@ -51,9 +49,8 @@ fn reaches(connective: Connective, left: Truths, right: Truths, truth: Truth3) -
 }
 
 /// The truths that a connective may have where its sides may have these.
-pub fn up_connective(connective: Connective, left: Truths, right: Truths) -> Truths
-    ensures row { result ≡ spec.up connective left right }
-    ensures sound { (x y : TheTruth) → has_truth left x ≡ true → has_truth right y ≡ true → has_truth result (spec.truth_by connective x y) ≡ true }
+pub(crate) fn up_connective(connective: Connective, left: Truths, right: Truths) -> Truths
+    ensures { result ≡ spec.up connective left right }
 {
     Truths {
         can_be_true: reaches(connective, left, right, Truth3::True),
@@ -83,21 +80,13 @@ fn fits(connective: Connective, side: Side, whole: Truths, part: Truth3, other: 
 }
 
 /// The truths that a side of a connective may have, where the whole, the side and the other side may have these.
-pub fn down_connective(
+pub(crate) fn down_connective(
     connective: Connective,
     side: Side,
     whole: Truths,
     part: Truths,
     other: Truths,
 ) -> Truths
-    ensures row { result ≡ spec.down connective side whole part other }
-    ensures sound { (x y : TheTruth) → has_truth part x ≡ true → has_truth other y ≡ true → has_truth whole (spec.of_side connective side x y) ≡ true → has_truth result x ≡ true }
-{
-    kept(connective, side, whole, part, other)
-}
-
-/// The truths of a side that fit.
-fn kept(connective: Connective, side: Side, whole: Truths, part: Truths, other: Truths) -> Truths
     ensures { result ≡ spec.down connective side whole part other }
 {
     Truths {
@@ -109,9 +98,8 @@ fn kept(connective: Connective, side: Side, whole: Truths, part: Truths, other: 
 }
 
 /// The truths that `not P` may have where P may have these.
-pub fn up_negation(part: Truths) -> Truths
-    ensures row { result ≡ spec.up_negation part }
-    ensures sound { (x : TheTruth) → has_truth part x ≡ true → has_truth result (negation x) ≡ true }
+pub(crate) fn up_negation(part: Truths) -> Truths
+    ensures { result ≡ spec.up_negation part }
 {
     Truths {
         can_be_true: part.can_be_false,
@@ -121,9 +109,8 @@ pub fn up_negation(part: Truths) -> Truths
 }
 
 /// The truths that P may have where `not P` and P may have these.
-pub fn down_negation(whole: Truths, part: Truths) -> Truths
-    ensures row { result ≡ spec.down_negation whole part }
-    ensures sound { (x : TheTruth) → has_truth part x ≡ true → has_truth whole (negation x) ≡ true → has_truth result x ≡ true }
+pub(crate) fn down_negation(whole: Truths, part: Truths) -> Truths
+    ensures { result ≡ spec.down_negation whole part }
 {
     Truths {
         can_be_true: part.can_be_true && whole.can_be_false,

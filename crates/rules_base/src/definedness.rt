@@ -1,10 +1,6 @@
 //! The rows of `Defined` and of predicates as values.
-ghost use Rattle.std.specs.Prelude.{◌≡◌, ◌++◌, true, false, IfOk, Option};
-ghost use Rattle.eb_value.specs.declared.value.Value.{Value as TheValue};
+ghost use Rattle.std.specs.Prelude.{◌≡◌, ◌++◌, true, false, IfOk};
 ghost use Rattle.eb_value.specs.Values as value;
-ghost use Rattle.eb_operations.specs.declared.truth3.Truth3.{Truth3 as TheTruth};
-ghost use Rattle.occ_domains.specs.Bodies as bodies;
-ghost use Rattle.occ_domains.specs.Domains as domains;
 ghost use Rattle.rules_base.specs.Definedness as spec;
 
 use eb_value::{Value, Values};
@@ -12,9 +8,8 @@ use occ_domains::{Body, Domain, Truths};
 use std::alloc::{AllocError, Global};
 
 /// The truths that `Defined(E)` may have where E may have these values, and be Undefined or not.
-pub fn up_defined(values: &Body, undefined: bool) -> Truths
-    ensures row { result ≡ spec.up_defined values.now undefined }
-    ensures sound { (s : Option TheValue) → domains.has_slot values.now undefined s ≡ true → domains.has_truth result (spec.defined s) ≡ true }
+pub(crate) fn up_defined(values: &Body, undefined: bool) -> Truths
+    ensures { result ≡ spec.up_defined values.now undefined }
 {
     Truths {
         can_be_true: !values.is_empty(),
@@ -23,13 +18,13 @@ pub fn up_defined(values: &Body, undefined: bool) -> Truths
     }
 }
 
-fn is_true_alone(truths: Truths) -> bool
+pub(crate) fn is_true_alone(truths: Truths) -> bool
     ensures { result ≡ spec.is_true_alone truths }
 {
     truths.can_be_true && !truths.can_be_false && !truths.can_be_undefined
 }
 
-fn is_false_alone(truths: Truths) -> bool
+pub(crate) fn is_false_alone(truths: Truths) -> bool
     ensures { result ≡ spec.is_false_alone truths }
 {
     truths.can_be_false && !truths.can_be_true && !truths.can_be_undefined
@@ -37,14 +32,13 @@ fn is_false_alone(truths: Truths) -> bool
 
 /// What E may be where `Defined(E)` may have these truths, and E these values and be Undefined or not. The only error is want of
 /// memory.
-pub fn down_defined(
+pub(crate) fn down_defined(
     alloc: Global,
     whole: Truths,
     values: &Body,
     undefined: bool,
 ) -> Result<Domain, AllocError>
-    ensures row { IfOk result (λ d. d ≡ spec.down_defined whole values.now undefined) }
-    ensures sound { IfOk result (λ d. (s : Option TheValue) → domains.has_slot values.now undefined s ≡ true → domains.has_truth whole (spec.defined s) ≡ true → domains.has d (domains.slot s) ≡ true) }
+    ensures { IfOk result (λ d. d ≡ spec.down_defined whole values.now undefined) }
 {
     let undefined = undefined && !is_true_alone(whole);
     if is_false_alone(whole) {
@@ -70,26 +64,25 @@ fn truth_values(alloc: Global, truths: Truths) -> Result<Values, AllocError>
 }
 
 /// What a predicate may be as a value of BOOL, where it may have these truths. The only error is want of memory.
-pub fn up_as_value(alloc: Global, truths: Truths) -> Result<Domain, AllocError>
-    ensures row { IfOk result (λ d. d ≡ spec.up_as_value truths) }
-    ensures sound { IfOk result (λ d. (x : TheTruth) → domains.has_truth truths x ≡ true → domains.has d (domains.slot (spec.as_value x)) ≡ true) }
+pub(crate) fn up_as_value(alloc: Global, truths: Truths) -> Result<Domain, AllocError>
+    ensures { IfOk result (λ d. d ≡ spec.up_as_value truths) }
 {
     let values = truth_values(alloc, truths)?;
     Ok(Domain::Values(Body::members(values), truths.can_be_undefined))
 }
 
 /// The truths that a predicate may have where it may have these, and as a value of BOOL may be one of these or Undefined. Where it
-/// may be Undefined as a value, nothing is known of the predicate.
-pub fn down_as_value(values: &Body, undefined: bool, truths: Truths) -> Truths
-    ensures row { result ≡ spec.down_as_value values.now undefined truths }
-    ensures sound { (x : TheTruth) → domains.has_truth truths x ≡ true → domains.has_slot values.now undefined (spec.as_value x) ≡ true → domains.has_truth result x ≡ true }
+/// may be Undefined as a value, nothing is known of the predicate; where it has no value, only that it isn't Undefined.
+pub(crate) fn down_as_value(values: &Body, undefined: bool, truths: Truths) -> Truths
+    ensures { result ≡ spec.down_as_value values.now undefined truths }
 {
     if undefined {
         return truths;
     }
     Truths {
-        can_be_true: truths.can_be_true && values.has(&Value::truth(true)),
-        can_be_false: truths.can_be_false && values.has(&Value::truth(false)),
+        can_be_true: truths.can_be_true && (values.is_empty() || values.has(&Value::truth(true))),
+        can_be_false: truths.can_be_false
+            && (values.is_empty() || values.has(&Value::truth(false))),
         can_be_undefined: false,
     }
 }

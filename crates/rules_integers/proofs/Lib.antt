@@ -1,0 +1,9 @@
+pub mod RowLaws
+pub mod RangeLaws
+pub mod IntegerLaws
+pub mod SumLaws
+pub mod ProductLaws
+pub mod QuotientLaws
+pub mod RemainderLaws
+pub mod PowerLaws
+pub mod ArithmeticLaws
