@@ -1,7 +1,6 @@
 -- The nodes of a term by its head: the term, and then the nodes of its parts.
-use Rattle.std.proofs.Common.{◌≡◌, ◌∙◌, refl, sym, ap, ap₂, subst, Bool, ℕ, List, [], ◌∷◌, ◌++◌, map, append_assoc, Bor, Result, OnOk, rules}
+use Rattle.std.proofs.Common.{◌≡◌, ◌∙◌, refl, sym, ap, ap₂, subst, Bool, ℕ, List, [], ◌∷◌, ◌++◌, map, rules}
 use Rattle.std.specs.List.{flat_map}
-use Rattle.std.proofs.lemmas.List.{map-append}
 use Rattle.eb_value.specs.declared.types.EbType.{EbType}
 use Rattle.eb_value.specs.declared.value.Value.{Value}
 use Rattle.eb_term.specs.declared.operators.Unary.{Unary}
@@ -144,26 +143,3 @@ over_nodes t range body o p =
 
 pub all_nodes : (t body : Term) (o : Binder) (ty : EbType) → t.head ≡ head.All o ty body → subterms t ≡ t ∷ subterms body
 all_nodes t body o ty p = nodes_are t (term.all o ty (listing body).whole) (subterms body) (search (rules, fold_out-Term, the_lemmas, p))
-
--- ---- a row of references, to whose end the term's nodes are written
-
-abbrev pub seen : List (Bor Term) → List Term
-seen = map (λ t. t.now)
-
--- after the term alone
-pub after_leaf : (new old : List (Bor Term)) (b : Bor Term) (all : List Term) → new ≡ old ++ b ∷ [] → all ≡ b.now ∷ [] → seen new ≡ seen old ++ all
-after_leaf new old b all e u = ap seen e ∙ (map-append (λ t. t.now) old (b ∷ []) ∙ ap (λ z. seen old ++ z) (sym u))
-
--- after the term and the nodes of its parts
-pub after_parts : {T E : Type 0} (r : Result T E) (new : List Term) (middle old : List (Bor Term)) (b : Bor Term) (parts all : List Term)
-    → OnOk r (new ≡ seen middle ++ parts) → middle ≡ old ++ b ∷ [] → all ≡ b.now ∷ parts → OnOk r (new ≡ seen old ++ all)
-after_parts r new middle old b parts all h e u =
-    subst (λ z. OnOk r (new ≡ z))
-    (ap (λ z. z ++ parts) (after_leaf middle old b (b.now ∷ []) e refl)
-    ∙ (append_assoc (seen old) (b.now ∷ []) parts ∙ ap (λ z. seen old ++ z) (sym u)))
-    h
-
--- after the nodes of one part and then of another
-pub after_two : {T E : Type 0} (r : Result T E) (new between middle left right : List Term)
-    → OnOk r (new ≡ between ++ right) → between ≡ middle ++ left → OnOk r (new ≡ middle ++ (left ++ right))
-after_two r new between middle left right h e = subst (λ z. OnOk r (new ≡ z)) (ap (λ z. z ++ right) e ∙ append_assoc middle left right) h

@@ -3,14 +3,12 @@
 #![tactic(auto)]
 
 mod laws;
-mod nodes;
 mod operators;
 mod problem;
 mod shared;
 mod term;
 
 pub use laws::nodes_are_a_term_and_those_of_its_parts;
-pub use nodes::Nodes;
 pub use operators::{Binary, Binder, Infinite, Many, Side, Unary};
 pub use problem::{Choice, Choices, Problem, Terms};
 pub use shared::{SharedType, SharedValue};

@@ -27,8 +27,10 @@ impl Choice {
     }
 }
 
+/// The choices of a problem, in order.
 pub type Choices = Items<Choice>;
 
+/// Terms one after the other, as the definitions or the facts of a problem.
 pub type Terms = Items<Term>;
 
 /// Choices; definitions, each of which names an expression over the choices and the definitions before it; and facts, which

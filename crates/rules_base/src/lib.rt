@@ -15,6 +15,6 @@ mod rule;
 mod rules;
 
 pub use connective::Connective;
-pub use laws::rules_have_the_meaning;
+pub use laws::{rules_are_sound, rules_have_the_meaning};
 pub use rule::{BinaryRule, UnaryRule};
 pub use rules::{down_binary, down_unary, up_binary, up_unary};

@@ -2,6 +2,8 @@ use Rattle.occ_domains.proofs.BodyLaws.{has_out, pairs_have, integers_have, empt
 use Rattle.occ_domains.proofs.MeetLaws.{meet_has}
 use Rattle.occ_domains.proofs.NormalLaws.{meet_normal, integers_normal, pairs_normal, normal_parts}
 use Rattle.occ_domains.proofs.RemovalLaws.{without_has, without_normal}
+use Rattle.occ_domains.proofs.ExactLaws.{only_has}
+use Rattle.occ_domains.proofs.WholeLaws.{whole_each}
 use Rattle.occ_domains.proofs.AloneLaws.{only_value}
 use Rattle.occ_domains.proofs.laws.bodies_have_their_values.Goals as goal
 
@@ -40,3 +42,9 @@ returns-clause-without c = λ b v w h e. without_has c.order_is_total.ensures.ex
 
 pub returns-clause-normal_without : goal.returns-clause-normal_without
 returns-clause-normal_without c = λ b v n. without_normal c.order_is_total.ensures.transitive b v n
+
+pub returns-clause-only : goal.returns-clause-only
+returns-clause-only c = λ s. only_has c.order_is_total.ensures.reflexive s
+
+pub returns-clause-whole : goal.returns-clause-whole
+returns-clause-whole c = λ scope ty v h. whole_each c.order_is_total.ensures.reflexive c.values_are_complete.ensures scope ty v h

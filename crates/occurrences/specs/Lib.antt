@@ -1,0 +1,3 @@
+-- What the contracts of callers lead to.
+pub mod Binding
+pub mod Outcomes

@@ -1,0 +1,12 @@
+use Rattle.std.proofs.Common.{◌≡◌, length, take}
+use Rattle.std.specs.List.{flat_map}
+use Rattle.eb_term.specs.Nodes.{subterms}
+use Rattle.problem_nodes.specs.Places.{starts}
+use Rattle.problem_nodes.specs.steps.Rows.{rows}
+use Rattle.problem_nodes.specs.steps.Lists.{extended, made_at}
+use Rattle.problem_nodes.proofs.lists.push_roots.Given as goal
+
+abbrev pub invariant-loop-place : goal.invariant-loop-place
+invariant-loop-place l =
+    (l.roots.items ≡ starts (length l.initial.lists.terms) (take l.place l.terms))
+    × (l.lists ≡ extended l.initial.lists (flat_map subterms (take l.place l.terms)) (rows (made_at l.made) 0 (length l.initial.lists.terms) (take l.place l.terms)))
