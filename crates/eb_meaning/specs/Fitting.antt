@@ -1,15 +1,15 @@
 -- Terms whose literals and references have the types that they say.
-use Rattle.std.specs.Prelude.{◌≡◌, ⊤, Bool, true, ◌&&◌, List, [], ◌∷◌, Some, None}
+use Rattle.std.specs.Prelude.{Bool, true, ◌&&◌, List, Some, None}
 use Rattle.std.specs.List.{list_all}
 use Rattle.eb_value.specs.declared.scope.Scope.{Scope}
 use Rattle.eb_value.specs.declared.types.EbType.{EbType}
-use Rattle.eb_value.specs.declared.value.Value.{Value}
 use Rattle.eb_value.specs.Typing.{has_type}
 use Rattle.eb_term.specs.declared.term.Term.{Term}
 use Rattle.eb_term.specs.declared.term.Head.{Head-F}
 use Rattle.eb_term.specs.declared.term.Head.TheOpen as head
 use Rattle.eb_term.specs.Terms.{by_parts}
 use Rattle.eb_meaning.specs.Meaning.{Slot, slot_at}
+pub use Rattle.eb_value.specs.Typing.{AreOfTypes}
 
 -- Undefined, or a value of the type
 abbrev pub slot_has_type : Scope → Slot → EbType → Bool
@@ -34,10 +34,3 @@ fits_step scope refs (head.Projection s a b) = true
 -- each literal and each reference of the term fits
 abbrev pub fits : Scope → List Slot → Term → Bool
 fits scope refs = by_parts Bool (fits_step scope refs)
-
--- the values have the types, one each
-abbrev pub AreOfTypes : Scope → List Value → List EbType → Type 0
-AreOfTypes scope [] [] = ⊤
-AreOfTypes scope [] (t ∷ ts) = ⊥
-AreOfTypes scope (v ∷ vs) [] = ⊥
-AreOfTypes scope (v ∷ vs) (t ∷ ts) = (has_type scope v t ≡ true) × AreOfTypes scope vs ts

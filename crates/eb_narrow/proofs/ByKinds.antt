@@ -13,10 +13,9 @@ use Rattle.eb_term.specs.declared.term.Term.{Term}
 use Rattle.eb_term.specs.declared.term.Head.TheVariants as head
 use Rattle.eb_meaning.specs.Meaning.{is_product, is_arrow}
 use Rattle.eb_narrow.specs.declared.kinds.UnaryKind.{UnaryKind}
-use Rattle.eb_narrow.specs.declared.kinds.UnaryKind.TheVariants as kind
 use Rattle.eb_narrow.specs.declared.kinds.BinaryKind.{BinaryKind}
 use Rattle.eb_narrow.specs.declared.kinds.BinaryKind.TheVariants as of
-use Rattle.eb_narrow.specs.Types.{type_by_unary, type_by_binary}
+use Rattle.term_types.specs.Types.{type_by_unary, type_by_binary}
 use Rattle.eb_narrow.specs.Narrow.{Narrowed, narrowed, by_unary, by_call, by_binary, by_relation, arrow_form, product_form}
 use Rattle.eb_narrow.specs.steps.Kinds.{unary_kind, operator_kind, binary_kind, kind_with, as_unary, as_binary}
 use Rattle.eb_narrow.proofs.NarrowAt as at

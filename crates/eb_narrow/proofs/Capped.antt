@@ -19,7 +19,6 @@ use Rattle.eb_term.specs.declared.operators.Many.{Many}
 use Rattle.eb_term.specs.declared.operators.Many.TheVariants as many
 use Rattle.eb_term.specs.declared.operators.Infinite.{Infinite}
 use Rattle.eb_term.specs.declared.operators.Infinite.TheVariants as infinite
-use Rattle.eb_term.specs.declared.operators.Side.{Side}
 use Rattle.eb_term.specs.declared.term.Term.{Term, fold_out-Term}
 use Rattle.eb_term.specs.declared.term.Head.{the_lemmas}
 use Rattle.eb_term.specs.declared.term.Head.TheVariants as head

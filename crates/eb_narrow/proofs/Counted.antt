@@ -34,7 +34,7 @@ use Rattle.narrow_terms.specs.Building.{operation, negation, both, both_on, both
 use Rattle.eb_narrow.specs.declared.counts.Linear.{Linear}
 use Rattle.eb_narrow.specs.declared.counts.Counts.{Counts}
 use Rattle.eb_narrow.specs.declared.counts.Parts.TheVariants as parts
-use Rattle.eb_narrow.specs.Types.{type_by_unary, type_by_binary, type_by_many, type_by_binder, type_step}
+use Rattle.term_types.specs.Types.{type_by_unary, type_by_binary, type_by_many, type_by_binder}
 use Rattle.eb_narrow.specs.Narrow as narrow
 use Rattle.eb_narrow.specs.Narrow.{Narrowed, narrowed, set_type}
 use Rattle.eb_narrow.specs.steps.Counting as count
@@ -94,7 +94,7 @@ never_counts values g h d x e =
 counted_form : (ty : Option EbType) (values : ℕ → List Term) (has : ℕ → ℕ → Term → Term) (g : ℕ) (l : Linear)
     → ((d : ℕ) → Nodes.given_of (values d) ≡ g) → Counts_as has l → Counted (narrow.form ty values has) (count.form sum g l)
 counted_form ty values has g l h k = record {
-  term = λ d. Nodes.nodes-none;
+  term = λ d. Nodes.nodes-none (narrow.type_or_any ty);
   is_form = refl;
   given = h;
   has = k;
@@ -112,7 +112,7 @@ defined d x e = let whole = Nodes.nodes-operation op.Equal e e in omega arith
 
 counted_infinite : (i : Infinite) → Counted (narrow.infinite_set i) (count.infinite_set sum i)
 counted_infinite infinite.Integers = record {
-  term = λ d. Nodes.nodes-none;
+  term = λ d. Nodes.nodes-none (power integer);
   is_form = refl;
   given = λ d. refl;
   has = defined;

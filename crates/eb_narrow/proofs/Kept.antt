@@ -32,7 +32,7 @@ use Rattle.eb_meaning.specs.Truths.{truth_of}
 use Rattle.eb_meaning.specs.Meaning.{Slot, Env, Meaning, meaning, value_of, truth_in, slot_at, variable_at, all_values, maplet_of_projection}
 use Rattle.eb_meaning.specs.Meaning as means
 use Rattle.eb_meaning.specs.Fitting.{slot_has_type, fits, AreOfTypes}
-use Rattle.eb_narrow.specs.Types.{type_step, type_by_unary, type_by_binary, type_by_many, type_by_binder}
+use Rattle.term_types.specs.Types.{type_step, type_by_unary, type_by_binary, type_by_many, type_by_binder}
 use Rattle.eb_narrow.specs.Narrow as narrow
 use Rattle.eb_narrow.specs.Narrow.{Narrowed, narrowed}
 use Rattle.eb_narrow.proofs.Hypotheses.{Laws}

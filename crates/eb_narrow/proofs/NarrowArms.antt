@@ -1,6 +1,5 @@
 -- Narrow form arm by arm of the code.
-use Rattle.std.proofs.Common.{◌≡◌, ◌∙◌, refl, sym, ap, ap₂, subst, ℕ, ◌+◌, Bool, true, false, ◌||◌, List, [], ◌∷◌, ◌++◌, map, Option, Some, None, unwrap_or, rules}
-use Rattle.std.specs.List.{AllByRecursion}
+use Rattle.std.proofs.Common.{◌≡◌, ◌∙◌, refl, sym, ap, ap₂, subst, ℕ, Bool, true, false, ◌||◌, List, [], ◌∷◌, ◌++◌, map, Option, Some, None, unwrap_or, rules}
 use Rattle.eb_syntax.specs.declared.ast.Operator.{Operator}
 use Rattle.eb_syntax.specs.declared.ast.Operator.TheVariants as op
 use Rattle.eb_value.specs.declared.types.EbType.{EbType}
@@ -23,16 +22,14 @@ use Rattle.eb_meaning.specs.Meaning.{is_total, is_surjective, is_function, is_in
 use Rattle.narrow_terms.specs.Shifting.{shift}
 use Rattle.narrow_terms.specs.Building as built
 use Rattle.narrow_terms.specs.Building.{operation, both, both_of, at_most, whole, is_defined, no_value}
-use Rattle.eb_narrow.specs.declared.kinds.UnaryKind.{UnaryKind}
 use Rattle.eb_narrow.specs.declared.kinds.UnaryKind.TheVariants as kind
 use Rattle.eb_narrow.specs.declared.kinds.BinaryKind.{BinaryKind}
 use Rattle.eb_narrow.specs.declared.kinds.BinaryKind.TheVariants as of
 use Rattle.eb_narrow.specs.declared.kinds.Question.{Question}
-use Rattle.eb_narrow.specs.Types.{type_of}
+use Rattle.term_types.specs.Types.{type_of, type_by_binary}
 use Rattle.eb_narrow.specs.Narrow as narrow
 use Rattle.eb_narrow.specs.Narrow.{Narrowed, narrowed, expression, predicate, by_many, set_type, infinite_set}
-use Rattle.eb_narrow.specs.steps.Kinds.{unary_kind, binary_kind, kind_with, as_unary, as_binary, asked, said, one_part, two_parts, is_form_kind, beyond}
-use Rattle.eb_narrow.specs.steps.Letters as letters
+use Rattle.eb_narrow.specs.steps.Kinds.{unary_kind, binary_kind, kind_with, as_unary, as_binary, two_parts, is_form_kind, beyond}
 use Rattle.eb_narrow.specs.steps.Narrowing as step
 use Rattle.eb_narrow.proofs.TermInduction.{ind_term}
 use Rattle.eb_narrow.proofs.NarrowAt as at
@@ -40,7 +37,7 @@ use Rattle.eb_narrow.proofs.ByKinds.{unary_of, binary_of}
 
 -- ---- the term itself
 
-pub infinite_term : (t : Term) (i : Infinite) (d : ℕ) → t.head ≡ head.Infinite i → no_value ≡ (narrowed t).term d
+pub infinite_term : (t : Term) (i : Infinite) (d : ℕ) → t.head ≡ head.Infinite i → step.no_value_of t ≡ (narrowed t).term d
 infinite_term t i d p = search (rules, fold_out-Term, the_lemmas, p)
 
 pub identity_term : (t : Term) (ty : EbType) (d : ℕ) → t.head ≡ head.Identity ty → narrow.identity ty d ≡ (narrowed t).term d
@@ -49,16 +46,11 @@ identity_term t ty d p = search (rules, fold_out-Term, the_lemmas, p)
 pub projection_term : (t : Term) (s : _) (a b : EbType) (d : ℕ) → t.head ≡ head.Projection s a b → narrow.projection s a b d ≡ (narrowed t).term d
 projection_term t s a b d p = search (rules, fold_out-Term, the_lemmas, p)
 
-untyped_unary : (k : UnaryKind) (o : Unary) (ty : Option EbType) (a : Narrowed) (d : ℕ) → (as_unary k o None a).term d ≡ (as_unary k o ty a).term d
-untyped_unary kind.PowerSet o ty a d = refl
-untyped_unary kind.NonemptyPowerSet o ty a d = refl
-untyped_unary kind.UnionOfMembers o ty a d = refl
-untyped_unary kind.Other o ty a d = refl
+pub unary_term : (t a : Term) (o : Unary) (d : ℕ) → t.head ≡ head.Unary o a → (as_unary (unary_kind o) o (type_of t) (narrowed a)).term d ≡ (narrowed t).term d
+unary_term t a o d p =
+    ap (λ ty. (as_unary (unary_kind o) o ty (narrowed a)).term d) (at.unary_ty t a o p) ∙ sym (ap (λ n. n.term d) (unary_of t a o (unary_kind o) p refl))
 
-pub unary_term : (t a : Term) (o : Unary) (d : ℕ) → t.head ≡ head.Unary o a → (as_unary (unary_kind o) o None (narrowed a)).term d ≡ (narrowed t).term d
-unary_term t a o d p = untyped_unary (unary_kind o) o _ (narrowed a) d ∙ sym (ap (λ n. n.term d) (unary_of t a o (unary_kind o) p refl))
-
-form_kind : (k : BinaryKind) (o : Binary) (ty : Option EbType) (a b : Narrowed) (d : ℕ) → is_form_kind k ≡ true → no_value ≡ (as_binary k o ty a b).term d
+form_kind : (k : BinaryKind) (o : Binary) (ty : Option EbType) (a b : Narrowed) (d : ℕ) → is_form_kind k ≡ true → no_value (unwrap_or ty boolean) ≡ (as_binary k o ty a b).term d
 form_kind (of.Arrow arrow) o ty a b d h = refl
 form_kind of.Product o ty a b d h = refl
 form_kind of.Interval o ty a b d h = let none : false ≡ true = h in absurd cc
@@ -66,8 +58,10 @@ form_kind (of.Membership q n) o ty a b d h = let none : false ≡ true = h in ab
 form_kind of.Other o ty a b d h = let none : false ≡ true = h in absurd cc
 
 pub form_term : (t a b : Term) (o : Binary) (k : BinaryKind) (d : ℕ) → t.head ≡ head.Binary o a b → kind_with (binary_kind o) ((narrowed a).is_form || (narrowed b).is_form) ≡ k
-    → is_form_kind k ≡ true → no_value ≡ (narrowed t).term d
-form_term t a b o k d p q h = form_kind k o _ (narrowed a) (narrowed b) d h ∙ sym (ap (λ n. n.term d) (binary_of t a b o k p q))
+    → is_form_kind k ≡ true → step.no_value_of t ≡ (narrowed t).term d
+form_term t a b o k d p q h =
+    let ty = type_by_binary o (narrowed a).ty (narrowed b).ty in
+    ap (λ ty. no_value (unwrap_or ty boolean)) (at.binary_ty t a b o p) ∙ (form_kind k o ty (narrowed a) (narrowed b) d h ∙ sym (ap (λ n. n.term d) (binary_of t a b o k p q)))
 
 beyond_kind : (k : BinaryKind) (o : Binary) (ty : Option EbType) (a b : Narrowed) (d : ℕ) → is_form_kind k ≡ false → beyond k o (a.term d) b d ≡ (as_binary k o ty a b).term d
 beyond_kind (of.Arrow arrow) o ty a b d h = let none : true ≡ false = h in absurd cc
@@ -97,7 +91,7 @@ many_term t o ts d p = untyped_many o _ (map narrowed ts) d ∙ sym (ap (λ n. n
 
 -- ---- by kinds
 
-pub union_is : (a s : Term) (ty : EbType) (d : ℕ) → s ≡ (narrowed a).term d → ty ≡ letters.element_type a
+pub union_is : (a s : Term) (ty : EbType) (d : ℕ) → s ≡ (narrowed a).term d → ty ≡ narrow.element_type (type_of a)
     → term.over binder.Collect s (whole d ty) ≡ narrow.union_of_members (narrowed a) d
 union_is a s ty d p q =
     ap₂ (λ s ty. term.over binder.Collect s (whole d ty)) p q

@@ -1,7 +1,6 @@
 -- Narrow form by the head of a term, and the types that it goes by.
-use Rattle.std.proofs.Common.{◌≡◌, ◌∙◌, refl, sym, ap, ap₂, subst, ℕ, ◌+◌, Bool, true, false, not, ◌&&◌, ◌||◌, if◌then◌else◌, List, [], ◌∷◌, ◌++◌, map, Option, Some, None, rules}
+use Rattle.std.proofs.Common.{◌≡◌, ◌∙◌, refl, sym, ap, ap₂, ℕ, ◌+◌, Bool, true, false, ◌||◌, if◌then◌else◌, List, [], ◌∷◌, map, Option, rules}
 use Rattle.std.specs.List.{AllByRecursion}
-use Rattle.eb_syntax.specs.declared.ast.Prefix.{Prefix}
 use Rattle.eb_syntax.specs.declared.ast.Prefix.TheVariants as prefix
 use Rattle.eb_syntax.specs.declared.ast.Call.{Call}
 use Rattle.eb_syntax.specs.declared.ast.Call.TheVariants as call
@@ -20,9 +19,8 @@ use Rattle.eb_term.specs.declared.term.Term.{Term, fold_out-Term}
 use Rattle.eb_term.specs.declared.term.Head.{the_lemmas}
 use Rattle.eb_term.specs.declared.term.Head.TheVariants as head
 use Rattle.eb_term.specs.Terms as term
-use Rattle.eb_meaning.specs.Meaning.{is_product, is_arrow}
 use Rattle.narrow_terms.specs.Building.{partition}
-use Rattle.eb_narrow.specs.Types.{type_of, type_by_unary, type_by_binary, type_by_many, type_by_binder}
+use Rattle.term_types.specs.Types.{type_of, type_by_unary, type_by_binary, type_by_many, type_by_binder}
 use Rattle.eb_narrow.specs.Narrow.{Narrowed, narrowed, by_unary, by_call, by_operator, by_binary, by_relation, by_many, by_range, product_form, set_type}
 use Rattle.eb_narrow.specs.steps.Narrowing as step
 use Rattle.eb_narrow.proofs.TermInduction.{ind_term}
@@ -167,3 +165,9 @@ same_type = ind_term (λ t. (narrowed t).ty ≡ type_of t) (record {
   over = λ o s body p q. ap (λ n. n.ty) (over_is (term.over o s body) s body o (search (rules, the_lemmas))) ∙ (range_type o (λ k d r. term.over k ((narrowed s).term d) r) (narrowed body) ∙ (ap (type_by_binder o) q ∙ sym (type-over o s body)));
   all = λ o ty body p. ap (λ n. n.ty) (all_is (term.all o ty body) body o ty (search (rules, the_lemmas))) ∙ (range_type o (λ k d r. term.all k ty r) (narrowed body) ∙ (ap (type_by_binder o) p ∙ sym (type-all o ty body)));
 })
+
+pub unary_ty : (t a : Term) (o : Unary) → t.head ≡ head.Unary o a → type_of t ≡ type_by_unary o (narrowed a).ty
+unary_ty t a o p = sym (same_type t) ∙ (ap (λ n. n.ty) (unary_is t a o p) ∙ unary_type o (narrowed a))
+
+pub binary_ty : (t a b : Term) (o : Binary) → t.head ≡ head.Binary o a b → type_of t ≡ type_by_binary o (narrowed a).ty (narrowed b).ty
+binary_ty t a b o p = sym (same_type t) ∙ (ap (λ n. n.ty) (binary_is t a b o p) ∙ binary_type o (narrowed a) (narrowed b))

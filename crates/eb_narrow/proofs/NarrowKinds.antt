@@ -1,5 +1,5 @@
 -- Expressions and forms in narrow form.
-use Rattle.std.proofs.Common.{◌≡◌, ◌∙◌, refl, sym, ap, subst, ℕ, Bool, true, false, not, ◌&&◌, ◌||◌, if◌then◌else◌, List, [], ◌∷◌, ◌++◌, map, Option, Some, None, rules}
+use Rattle.std.proofs.Common.{◌≡◌, ◌∙◌, refl, sym, ap, subst, ℕ, Bool, true, false, ◌&&◌, ◌||◌, if◌then◌else◌, List, [], ◌∷◌, ◌++◌, map, Option, Some, None, rules}
 use Rattle.eb_syntax.specs.declared.ast.Prefix.TheVariants as prefix
 use Rattle.eb_syntax.specs.declared.ast.Call.{Call}
 use Rattle.eb_syntax.specs.declared.ast.Call.TheVariants as call
@@ -26,7 +26,7 @@ use Rattle.eb_term.specs.Terms as term
 use Rattle.eb_meaning.specs.Meaning.{is_product, is_arrow}
 use Rattle.narrow_terms.specs.Shifting.{shift}
 use Rattle.narrow_terms.specs.Building.{operation, is_defined, negation, both, both_on, both_of}
-use Rattle.eb_narrow.specs.Types.{type_of, type_by_unary, type_by_binary, type_by_many, type_by_binder}
+use Rattle.term_types.specs.Types.{type_of, type_by_unary, type_by_binary, type_by_many, type_by_binder}
 use Rattle.eb_narrow.specs.Narrow.{Narrowed, narrowed, expression, predicate, form, infinite_set, each_member, no_set_is_all, by_unary, by_call, by_binary, by_relation, by_many, by_range, product_form, element_type, arrow_form, identity, projection}
 use Rattle.eb_narrow.specs.steps.Narrowing as step
 use Rattle.eb_narrow.proofs.TermInduction.{ind_term}

@@ -1,6 +1,6 @@
 -- The nodes of terms, of terms put under more binders, and of what narrow form writes.
 use Rattle.std.proofs.Common.{◌≡◌, ◌∙◌, refl, sym, ap, ap₂, ℕ, suc, ◌+◌, List, [], ◌∷◌, ◌++◌, length, map, length-append, zero-add, add_assoc, arith, rules}
-use Rattle.std.specs.List.{AllByRecursion, flat_map, sum}
+use Rattle.std.specs.List.{AllByRecursion, flat_map}
 use Rattle.eb_value.specs.declared.types.EbType.{EbType}
 use Rattle.eb_value.specs.declared.value.Value.{Value}
 use Rattle.eb_syntax.specs.declared.ast.Operator.{Operator}
@@ -8,7 +8,6 @@ use Rattle.eb_term.specs.declared.operators.Unary.{Unary}
 use Rattle.eb_term.specs.declared.operators.Binary.{Binary}
 use Rattle.eb_term.specs.declared.operators.Binary.TheVariants as binary
 use Rattle.eb_term.specs.declared.operators.Binder.{Binder}
-use Rattle.eb_term.specs.declared.operators.Infinite.{Infinite}
 use Rattle.eb_term.specs.declared.operators.Many.{Many}
 use Rattle.eb_term.specs.declared.operators.Side.{Side}
 use Rattle.eb_term.specs.declared.term.Term.{Term}
@@ -118,8 +117,8 @@ nodes-not p = nodes-unary _ p
 pub nodes-whole : (k : ℕ) (ty : EbType) → nodes (whole k ty) ≡ 1
 nodes-whole k ty = nodes-variable k [] ty
 
-pub nodes-none : nodes no_value ≡ 2
-nodes-none = nodes-unary _ (empty_set _) ∙ ap suc (nodes-literal _ _)
+pub nodes-none : (t : EbType) → nodes (no_value t) ≡ 2
+nodes-none t = nodes-unary _ (empty_set _) ∙ ap suc (nodes-literal _ _)
 
 pub nodes-defined : (d x : ℕ) (v : Term) → nodes (is_defined (shift d x v)) ≡ suc (nodes v + nodes v)
 nodes-defined d x v = nodes-operation _ (shift d x v) (shift d x v) ∙ ap (λ n. suc (n + n)) (nodes-shift d x v)

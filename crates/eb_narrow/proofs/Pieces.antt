@@ -55,8 +55,8 @@ truth_true scope env = search (rules, the_lemmas)
 pub value_literal : (scope : Scope) (env : Env) (v : Value) (t : EbType) → value_of scope env (term.literal v t) ≡ Some v
 value_literal scope env v t = search (rules, the_lemmas)
 
-pub value_no_value : (scope : Scope) (env : Env) → value_of scope env no_value ≡ None
-value_no_value scope env = search (rules, the_lemmas, value_module.the_lemmas)
+pub value_no_value : (scope : Scope) (env : Env) (t : EbType) → value_of scope env (no_value t) ≡ None
+value_no_value scope env t = search (rules, the_lemmas, value_module.the_lemmas)
 
 pub truth_exists : (scope : Scope) (env : Env) (e p : Term)
     → truth_in scope env (term.over binder.Exists e p) ≡ over_range Undefined (λ vs. exists (map (λ v. truth_in scope (inside env v) p) vs)) (option_map members (value_of scope env e))

@@ -16,7 +16,7 @@ use Rattle.eb_term.specs.declared.term.Term.{Term}
 use Rattle.eb_term.specs.Terms as term
 use Rattle.eb_operations.specs.declared.truth3.Truth3.TheVariants.{True, Undefined}
 use Rattle.eb_meaning.specs.Truths as truths
-use Rattle.eb_meaning.specs.Truths.{truth_of, tested, for_all, exists}
+use Rattle.eb_meaning.specs.Truths.{truth_of, tested, exists}
 use Rattle.eb_meaning.specs.Meaning.{Slot, meaning, value_of, truth_in, inside, with_two, test_by, where_given, is_value, is_value_of, over_range}
 use Rattle.eb_meaning.specs.Fitting.{slot_has_type}
 use Rattle.narrow_terms.specs.Shifting.{shift}
@@ -167,7 +167,7 @@ module _ (laws : Laws) (scope : Scope) (refs : List Slot) (bound : List Value) (
 
   pub form_represents : Represents scope refs bound (power u) (narrow.form ty values has) (of_form given holds)
   form_represents = record {
-    value = value_no_value scope (env_of refs bound);
+    value = value_no_value scope (env_of refs bound) (narrow.type_or_any ty);
     fits = refl;
     given = known;
     has = each;

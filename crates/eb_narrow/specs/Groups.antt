@@ -15,7 +15,6 @@ use Rattle.eb_term.specs.declared.operators.Many.TheVariants as many
 use Rattle.eb_term.specs.declared.operators.Binder.{Binder}
 use Rattle.eb_term.specs.declared.operators.Binder.TheVariants as binder
 use Rattle.eb_term.specs.declared.term.Term.{Term}
-use Rattle.eb_term.specs.declared.term.Head.{Head-F}
 use Rattle.eb_term.specs.declared.term.Head.TheOpen as head
 use Rattle.eb_term.specs.Terms.{Layer, layer}
 use Rattle.eb_narrow.specs.declared.groups.Group.{Group}

@@ -1,6 +1,5 @@
 -- What the contracts of the public functions lead to.
 pub mod Groups
 pub mod Narrow
-pub mod Types
 -- Means of proof, which only private functions cite.
 pub mod steps

@@ -1,6 +1,6 @@
 -- Narrow form: the same formulas with few operators. What stands to the right of a membership is written out, `!` and the other
 -- relations go by `not`, and what copies parts is named here alone.
-use Rattle.std.specs.Prelude.{ℕ, ◌+◌, Bool, true, false, not, ◌&&◌, ◌||◌, if◌then◌else◌, List, [], ◌∷◌, ◌++◌, map, Option, Some, None, option_and_then, unwrap_or, pos}
+use Rattle.std.specs.Prelude.{ℕ, ◌+◌, Bool, true, false, ◌&&◌, ◌||◌, if◌then◌else◌, List, [], ◌∷◌, ◌++◌, map, Option, Some, None, option_and_then, unwrap_or, pos}
 use Rattle.eb_syntax.specs.declared.ast.Prefix.{Prefix}
 use Rattle.eb_syntax.specs.declared.ast.Prefix.TheVariants as prefix
 use Rattle.eb_syntax.specs.declared.ast.Call.{Call}
@@ -8,7 +8,7 @@ use Rattle.eb_syntax.specs.declared.ast.Call.TheVariants as call
 use Rattle.eb_syntax.specs.declared.ast.Operator.{Operator}
 use Rattle.eb_syntax.specs.declared.ast.Operator.TheVariants as op
 use Rattle.eb_value.specs.declared.types.EbType.{EbType}
-use Rattle.eb_value.specs.Types.{integer, boolean, product, power}
+use Rattle.eb_value.specs.Types.{integer, boolean, power}
 use Rattle.eb_term.specs.declared.operators.Unary.{Unary}
 use Rattle.eb_term.specs.declared.operators.Unary.TheVariants as unary
 use Rattle.eb_term.specs.declared.operators.Binary.{Binary}
@@ -30,17 +30,12 @@ use Rattle.eb_meaning.specs.Meaning.{is_product, is_arrow, is_total, is_surjecti
 use Rattle.type_table.specs.Rows.{relation}
 use Rattle.narrow_terms.specs.Shifting.{shift}
 use Rattle.narrow_terms.specs.Building.{operation, negation, conjunction, both, equal, at_most, member, subset, part, domain, range, inverse, functional, extension, pair, is_defined, empty_set, no_value, whole, both_of, infinite_has, partition}
-use Rattle.eb_narrow.specs.Types as types
+use Rattle.term_types.specs.Types as types
 use Rattle.narrow_terms.specs.Parts.{element_of}
-use Rattle.eb_narrow.specs.Types.{type_by_unary, type_by_binary, type_by_many, type_by_binder}
+pub use Rattle.term_types.specs.Types.{element_type, type_or_any}
+use Rattle.term_types.specs.Types.{type_by_unary, type_by_binary, type_by_many, type_by_binder}
 
 -- ---- types, BOOL where there is none
-
-abbrev pub element_type : Option EbType → EbType
-element_type t = unwrap_or (option_and_then element_of t) boolean
-
-abbrev pub type_or_any : Option EbType → EbType
-type_or_any t = unwrap_or t boolean
 
 -- ---- what becomes of a term
 
@@ -86,7 +81,7 @@ abbrev pub form : Option EbType → (ℕ → List Term) → (ℕ → ℕ → Ter
 form ty values has = record {
   ty = ty;
   is_form = true;
-  term = λ d. no_value;
+  term = λ d. no_value (type_or_any ty);
   values = values;
   has = has;
   has_members = each_member ty values has;
@@ -116,7 +111,7 @@ abbrev pub infinite_set : Infinite → Narrowed
 infinite_set i = record {
   ty = Some (power integer);
   is_form = true;
-  term = λ d. no_value;
+  term = λ d. no_value (power integer);
   values = λ d. [];
   has = λ d x e. infinite_has i e;
   has_members = infinite_has_members i;

@@ -1,5 +1,4 @@
 -- Means of proof: no public clause names what stands here.
 pub mod Counting
 pub mod Kinds
-pub mod Letters
 pub mod Narrowing

@@ -9,7 +9,7 @@ ghost use Rattle.eb_term.specs.Typed.{HasSort};
 ghost use Rattle.eb_meaning.specs.Meaning.{Slot, value_of, truth_in};
 ghost use Rattle.eb_meaning.specs.Fitting.{fits};
 ghost use Rattle.eb_narrow.specs.Narrow.{narrow, narrowed};
-ghost use Rattle.eb_narrow.specs.Types.{type_of};
+ghost use Rattle.term_types.specs.Types.{type_of};
 
 use eb_meaning::typed_terms_have_values_of_their_types;
 use eb_value::{
@@ -43,10 +43,7 @@ pub fn narrow_form_keeps_the_meaning()
     typed_terms_have_values_of_their_types();
 }
 
-/// The type of a term is that by which it is typed, a predicate has none, and narrow form goes by the same types.
-pub fn types_are_those_of_the_typing()
-    ensures value { (types : List EbType) (t : Term) (ty : EbType)
-        → HasSort types t (expression ty) → type_of t ≡ Some ty }
-    ensures truth { (types : List EbType) (t : Term) → HasSort types t predicate → type_of t ≡ None }
-    ensures narrow_form { (t : Term) → (narrowed t).ty ≡ type_of t }
+/// Narrow form goes by the type of the term.
+pub fn narrow_form_goes_by_the_types()
+    ensures { (t : Term) → (narrowed t).ty ≡ type_of t }
 {}

@@ -1,6 +1,6 @@
 //! Narrow form: the same formulas with few operators.
 //!
-//! The definitions stand in `specs/`: `Types` (the type of a term), `Narrow` and `Groups` (the groups of its operators).
+//! The definitions stand in `specs/`: `Narrow` and `Groups` (the groups of its operators).
 #![tactic(auto)]
 
 mod counts;
@@ -9,11 +9,9 @@ mod kinds;
 mod laws;
 mod narrowing;
 mod sets;
-mod types;
 mod written;
 
 pub use counts::narrowed_nodes;
 pub use groups::{Group, group_of};
-pub use laws::{narrow_form_keeps_the_meaning, types_are_those_of_the_typing};
+pub use laws::{narrow_form_goes_by_the_types, narrow_form_keeps_the_meaning};
 pub use narrowing::narrow;
-pub use types::type_of;

@@ -4,13 +4,13 @@ ghost use Rattle.eb_term.specs.declared.term.Term.{Term};
 ghost use Rattle.narrow_terms.specs.Shifting.{shift};
 ghost use Rattle.narrow_terms.specs.Building as built;
 ghost use Rattle.eb_narrow.specs.Narrow as spec;
+ghost use Rattle.term_types.specs.Types.{type_of};
 ghost use Rattle.eb_narrow.specs.steps.Kinds as kinds;
-ghost use Rattle.eb_narrow.specs.steps.Letters as letters;
+ghost use Rattle.term_types.specs.Types as types;
 ghost use Rattle.eb_narrow.specs.steps.Narrowing as step;
 
 use crate::kinds::{BinaryKind, Question, UnaryKind, is_form_kind, is_whole, unary_kind};
 use crate::sets::{is_form, is_integers, kind_at};
-use crate::types::{element_type, type_or_any};
 use crate::written::{
     all, arrow_has, identity, is_between, is_nonempty, joined, member_at, none_is_out, one_part,
     over, projection, proper_subset, said, side_of, turned, two_parts, union_of_members,
@@ -24,6 +24,7 @@ use narrow_terms::{
 };
 use sqlite_items::Items;
 use std::alloc::{AllocError, Global};
+use term_types::{element_type, type_or_any};
 
 /// The term in narrow form, which has the same meaning and few operators: what stands to the right of a membership is written
 /// out, `!` and most relations go by `not`, and what is written with `union`, `partition`, `id`, `prj1` and `prj2` by the others.
@@ -42,14 +43,14 @@ fn term_at(alloc: Global, term: &Term, depth: u32) -> Result<Term, AllocError>
     ensures { IfOk result (λ t. t ≡ (spec.narrowed term.now).term depth) }
 {
     match &term.head {
-        Head::Infinite(_) => no_value(alloc),
+        Head::Infinite(_) => no_value_of(alloc, term),
         Head::Identity(ty) => identity(alloc, ty, depth),
         Head::Projection(side, first, second) => projection(alloc, *side, first, second, depth),
-        Head::Unary(operator, part) => unary_at(alloc, *operator, part.get(), depth),
+        Head::Unary(operator, part) => unary_at(alloc, *operator, part.get(), term, depth),
         Head::Binary(operator, left, right) => {
             let kind = kind_at(*operator, left.get(), right.get());
             if is_form_kind(kind) {
-                no_value(alloc)
+                no_value_of(alloc, term)
             } else {
                 let left = term_at(alloc, left.get(), depth)?;
                 beyond(alloc, right.get(), kind, *operator, left, depth)
@@ -80,13 +81,28 @@ fn terms_at(alloc: Global, terms: &[Term], depth: u32) -> Result<Terms, AllocErr
     Ok(all)
 }
 
+/// What stands for a form, by its type.
+fn no_value_of(alloc: Global, form: &Term) -> Result<Term, AllocError>
+    ensures { IfOk result (λ t. t ≡ step.no_value_of form.now) }
+{
+    let ty = type_or_any(alloc, form)?;
+    no_value(alloc, ty)
+}
+
+/// The whole in narrow form, which is this operator of this part.
 #[cycle(narrowing)]
-fn unary_at(alloc: Global, operator: Unary, part: &Term, depth: u32) -> Result<Term, AllocError>
-    ensures { IfOk result (λ t. t ≡ (kinds.as_unary (kinds.unary_kind operator) operator None (spec.narrowed part.now)).term depth) }
+fn unary_at(
+    alloc: Global,
+    operator: Unary,
+    part: &Term,
+    whole: &Term,
+    depth: u32,
+) -> Result<Term, AllocError>
+    ensures { IfOk result (λ t. t ≡ (kinds.as_unary (kinds.unary_kind operator) operator (type_of whole.now) (spec.narrowed part.now)).term depth) }
 {
     match unary_kind(operator) {
-        UnaryKind::PowerSet => no_value(alloc),
-        UnaryKind::NonemptyPowerSet => no_value(alloc),
+        UnaryKind::PowerSet => no_value_of(alloc, whole),
+        UnaryKind::NonemptyPowerSet => no_value_of(alloc, whole),
         UnaryKind::UnionOfMembers => {
             let sets = term_at(alloc, part, depth)?;
             let ty = element_type(alloc, part)?;
@@ -335,7 +351,7 @@ fn has_no_other(
     by: u32,
     e: &Term,
 ) -> Result<Term, AllocError>
-    ensures { IfOk result (λ t. t ≡ step.has_no_other (letters.element_type form.now) (spec.narrowed form.now) depth by e.now) }
+    ensures { IfOk result (λ t. t ≡ step.has_no_other (types.element_type (types.type_of form.now)) (spec.narrowed form.now) depth by e.now) }
 {
     let ty = element_type(alloc, form)?;
     let member = member_at(alloc, depth, by, ty)?;

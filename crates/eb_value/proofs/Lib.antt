@@ -20,6 +20,8 @@ pub mod ComprehensionLaws
 pub mod FunctionLaws
 pub mod ReadingSteps
 pub mod ReadingLaws
+pub mod RowLaws
+pub mod RowBytes
 mod SameTypeLaws
 mod FamilyLaws
 mod KeepLaws

@@ -302,6 +302,10 @@ module _ (names : List (List ℕ)) (scope : Scope) (readable : AreReadable names
   all_print : (t : EbType) → AllPrint t
   all_print = ind_type AllPrint (record { integer = print-integer; boolean = print-boolean; carrier = print-carrier; product = print-product; power = print-power })
 
+  -- a value's text is read as the value, where no digit stands behind it
+  pub read_back : (t : EbType) (w : Value) (rest : List ℕ) → has_type scope w t ≡ true → ends rest ≡ true → Reading.value_at names scope.sizes t (value_text names w ++ rest) ≡ Some (w, rest)
+  read_back t w rest h e = (all_print t w h).read rest e
+
   -- ---- whole texts
 
   pub complete : (t : EbType) (w : Value) (s : List ℕ) → has_type scope w t ≡ true → s ≡ value_text names w → Reading.whole_value names scope t s ≡ Some w
@@ -312,7 +316,7 @@ module _ (names : List (List ℕ)) (scope : Scope) (readable : AreReadable names
 
 -- ---- what is read prints so
 
-same_text : (xs ys : List ℕ) → pointwise nat_eq xs ys ≡ true → xs ≡ ys
+pub same_text : (xs ys : List ℕ) → pointwise nat_eq xs ys ≡ true → xs ≡ ys
 same_text [] [] h = refl
 same_text [] (y ∷ ys) h = cc
 same_text (x ∷ xs) [] h = cc
@@ -336,11 +340,11 @@ sound names scope t s v = sound_at names scope t s v (Reading.value_at names sco
 
 -- ---- what is answered
 
-pub given_ok : (r : Result Value ValueFault) (o : Option Value) (P : Value → Type 0) → Reading.Gives (λ v. v) r o → ((v : Value) → o ≡ Some v → P v) → IfOk r P
+pub given_ok : {X : Type 0} (r : Result X ValueFault) (o : Option X) (P : X → Type 0) → Reading.Gives (λ v. v) r o → ((v : X) → o ≡ Some v → P v) → IfOk r P
 given_ok (Ok v) o P g f = f v g
 given_ok (Err e) o P g f = tt
 
-pub given_form : (r : Result Value ValueFault) (o : Option Value) → Reading.Gives (λ v. v) r o → r ≡ Err fault.Form → o ≡ None
+pub given_form : {X : Type 0} (r : Result X ValueFault) (o : Option X) → Reading.Gives (λ v. v) r o → r ≡ Err fault.Form → o ≡ None
 given_form (Ok v) o g e = cc
 given_form (Err fault.Memory) o g e = cc
 given_form (Err fault.Form) o g e = g

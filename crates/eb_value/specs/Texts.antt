@@ -1,5 +1,5 @@
--- The text of a value.
-use Rattle.std.specs.Prelude.{◌≢◌, ℕ, Bool, true, false, List, [], ◌++◌, codes, unwrap_or, slice_get, slice_index, All}
+-- The text of a value, and of values in a row.
+use Rattle.std.specs.Prelude.{◌≢◌, ℕ, Bool, true, false, List, [], ◌++◌, map, codes, unwrap_or, slice_get, slice_index, All}
 use Rattle.std.specs.List.{join_with_byte}
 use Rattle.std.specs.Fmt.{decimal, signed_decimal}
 use Rattle.eb_value.specs.declared.value.Value.{Value}
@@ -32,3 +32,11 @@ AreReadable names = All (λ name. slice_index name 0 ≢ 125) names
 -- 5, TRUE, S#1, (1|->TRUE), {1,2}
 abbrev pub value_text : List (List ℕ) → Value → List ℕ
 value_text names = by_parts (List ℕ) (text_step names)
+
+-- the values' texts, a comma between two
+abbrev pub values_text : List (List ℕ) → List Value → List ℕ
+values_text names vs = join_with_byte 44 (map (value_text names) vs)
+
+-- neither a line feed nor a space nor a closing bracket
+abbrev pub StaysInRow : ℕ → Type 0
+StaysInRow byte = (byte ≢ 10) × (byte ≢ 32) × (byte ≢ 93)

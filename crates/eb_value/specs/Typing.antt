@@ -1,5 +1,5 @@
 -- Which values a type has.
-use Rattle.std.specs.Prelude.{ℕ, Bool, true, false, ◌&&◌, ◌==◌, nat_le, List, pos, negsuc, unwrap_or, slice_get, ℤ, int_le}
+use Rattle.std.specs.Prelude.{◌≡◌, ⊤, ℕ, Bool, true, false, ◌&&◌, ◌==◌, nat_le, List, [], ◌∷◌, pos, negsuc, unwrap_or, slice_get, ℤ, int_le}
 use Rattle.std.specs.List.{list_all}
 use Rattle.eb_value.specs.declared.scope.Scope.{Scope}
 use Rattle.eb_value.specs.declared.types.EbType.{EbType, fold-EbType}
@@ -34,6 +34,13 @@ has_type scope v t = fold-EbType (Value → Bool) (Value → Bool) (λ s v. type
 -- each of the values is one of the type
 abbrev pub have_type : Scope → List Value → EbType → Bool
 have_type scope vs t = list_all (λ v. has_type scope v t) vs
+
+-- the values have the types, one each
+abbrev pub AreOfTypes : Scope → List Value → List EbType → Type 0
+AreOfTypes scope [] [] = ⊤
+AreOfTypes scope [] (t ∷ ts) = ⊥
+AreOfTypes scope (v ∷ vs) [] = ⊥
+AreOfTypes scope (v ∷ vs) (t ∷ ts) = (has_type scope v t ≡ true) × AreOfTypes scope vs ts
 
 abbrev pub bounded_step : ℤ → ℤ → Form-F Bool Bool → Bool
 bounded_step lo hi (val.Int n) = int_le lo n && int_le n hi

@@ -1,6 +1,6 @@
-//! What holds of the order of values, for callers to cite.
+//! What holds of values, of their order and of their texts, for callers to cite.
 
-ghost use Rattle.std.specs.Prelude.{◌≡◌, ◌↔◌, List, true, ℤ, pos, negsuc, ◌≤ℤ◌, Contains};
+ghost use Rattle.std.specs.Prelude.{◌≡◌, ◌↔◌, ℕ, ◌<◌, ◌^◌, List, true, ℤ, pos, negsuc, ◌≤ℤ◌, All, Contains};
 ghost use Rattle.std.specs.Ordering.{ordering_reverse};
 ghost use Rattle.std.specs.declared.cmp.Ordering.TheVariants.{Less, Equal};
 ghost use Rattle.eb_value.specs.declared.value.Value.{Value};
@@ -9,7 +9,8 @@ ghost use Rattle.eb_value.specs.declared.types.EbType.{EbType};
 ghost use Rattle.eb_value.specs.Types.{integer};
 ghost use Rattle.eb_value.specs.Values as spec;
 ghost use Rattle.eb_value.specs.Scopes.{vals};
-ghost use Rattle.eb_value.specs.Typing.{has_type, is_bounded};
+ghost use Rattle.eb_value.specs.Texts.{AreReadable, StaysInRow, values_text};
+ghost use Rattle.eb_value.specs.Typing.{has_type, is_bounded, AreOfTypes};
 
 /// The order of values is total, and tells any two values apart.
 pub fn order_is_total()
@@ -44,4 +45,17 @@ pub fn values_are_complete()
 pub fn integers_lie_within_bounds()
     ensures { (scope : Scope) (v : Value) → Contains (vals scope integer) v
         ↔ ((n : ℤ) × (v ≡ spec.int n) × (scope.lo ≤ℤ n) × (n ≤ℤ scope.hi)) }
+{}
+
+/// Values of the same types with the same text are equal, where no name of a carrier set begins
+/// with a closing brace and none of the sets has 2^32 atoms or more. Their text has no line feed, no
+/// space and no closing bracket where no name has one.
+pub fn values_are_told_by_their_texts()
+    ensures told { (names : List (List ℕ)) → AreReadable names
+        → (scope : Scope) → All (λ size. size < 2 ^ 32) scope.sizes
+        → (types : List EbType) (vs ws : List Value)
+        → AreOfTypes scope vs types → AreOfTypes scope ws types
+        → values_text names vs ≡ values_text names ws → vs ≡ ws }
+    ensures stays { (names : List (List ℕ)) → All (λ name. All StaysInRow name) names
+        → (vs : List Value) → All StaysInRow (values_text names vs) }
 {}

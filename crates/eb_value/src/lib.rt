@@ -12,6 +12,7 @@ mod order;
 mod products;
 mod read;
 mod relations;
+mod rows;
 mod scope;
 mod sets;
 mod text;
@@ -25,7 +26,7 @@ pub use canonical::{canonical_values_have_canonical_parts, operators_keep_values
 pub use families::{meet_all, union_all};
 pub use laws::{
     integers_lie_within_bounds, members_determine_ascending_lists, order_is_total,
-    values_are_ascending, values_are_complete,
+    values_are_ascending, values_are_complete, values_are_told_by_their_texts,
 };
 pub use listing::{integers, values};
 pub use lists::{May, Row, Sizes, Values};
@@ -35,6 +36,7 @@ pub use read::{ValueFault, read_value};
 pub use relations::{
     dom_drop, dom_keep, domain, image, inverse, overlay, ran_drop, ran_keep, range,
 };
+pub use rows::{read_values, values_text};
 pub use scope::Scope;
 pub use sets::{contains, meet, minus, set_of, union};
 pub use text::value_text;

@@ -85,8 +85,9 @@ fn whole_value(
     Ok(value)
 }
 
+/// A value at the front of a text, and what is behind it.
 #[cycle(reading)]
-fn value_at<'a>(
+pub(crate) fn value_at<'a>(
     alloc: Global,
     text: &'a [u8],
     ty: &EbType,
@@ -190,7 +191,7 @@ fn behind(text: &[u8]) -> Option<(bool, &[u8])>
 }
 
 /// What is behind an expected text.
-fn after<'a>(front: &[u8], text: &'a [u8]) -> Option<&'a [u8]>
+pub(crate) fn after<'a>(front: &[u8], text: &'a [u8]) -> Option<&'a [u8]>
     ensures { option_map (λ rest. rest.now) result ≡ spec.after front.now text.now }
 {
     let mut rest = text;

@@ -45,8 +45,13 @@ fn write_value(text: &mut Vec<u8>, value: &Value, names: &Names) -> Result<(), A
     }
 }
 
+/// Writes the values with a comma between two.
 #[cycle(writing)]
-fn write_members(text: &mut Vec<u8>, members: &[Value], names: &Names) -> Result<(), AllocError>
+pub(crate) fn write_members(
+    text: &mut Vec<u8>,
+    members: &[Value],
+    names: &Names,
+) -> Result<(), AllocError>
     ensures { OnOk result (text.new.items
         ≡ text.old.items ++ join_with_byte 44 (map (spec.value_text names.now) members.now)) }
 {

@@ -5,7 +5,7 @@ use Rattle.eb_syntax.specs.declared.ast.Call.TheVariants as call
 use Rattle.eb_syntax.specs.declared.ast.Operator.{Operator}
 use Rattle.eb_syntax.specs.declared.ast.Operator.TheVariants as op
 use Rattle.eb_value.specs.declared.types.EbType.{EbType}
-use Rattle.eb_value.specs.Types.{integer, power}
+use Rattle.eb_value.specs.Types.{power}
 use Rattle.eb_value.specs.Values.{set}
 use Rattle.eb_term.specs.declared.operators.Unary.TheVariants as unary
 use Rattle.eb_term.specs.declared.operators.Binary.TheVariants as binary
@@ -70,9 +70,10 @@ is_defined e = equal e e
 abbrev pub empty_set : EbType → Term
 empty_set t = term.literal (set []) t
 
--- an expression without a value: what a form is where it stands as an expression, which no text can have
-abbrev pub no_value : Term
-no_value = term.unary (unary.Call call.Minimum) (empty_set (power integer))
+-- a set of this type without a value, the intersection of no sets: what a form is where it stands as an expression, which no text
+-- can have
+abbrev pub no_value : EbType → Term
+no_value t = term.unary (unary.Call call.GeneralizedIntersection) (empty_set (power t))
 
 -- the whole value of a binder
 abbrev pub whole : ℕ → EbType → Term

@@ -86,13 +86,14 @@ pub fn empty_set(alloc: Global, ty: EbType) -> Result<Term, AllocError>
     Term::literal(alloc, Value::set(Items::new(alloc)), ty)
 }
 
-/// What stands for a form where a text can have none. The only error is want of memory.
-pub fn no_value(alloc: Global) -> Result<Term, AllocError>
-    ensures { IfOk result (λ t. t ≡ spec.no_value) }
+/// What stands for a form of this type where a text can have none: the intersection of no sets, which is Undefined. The type is
+/// one of sets. The only error is want of memory.
+pub fn no_value(alloc: Global, ty: EbType) -> Result<Term, AllocError>
+    ensures { IfOk result (λ t. t ≡ spec.no_value ty) }
 {
-    let integers = EbType::power(alloc, EbType::integer())?;
-    let empty = empty_set(alloc, integers)?;
-    Term::unary(alloc, Unary::Call(Call::Minimum), empty)
+    let sets = EbType::power(alloc, ty)?;
+    let none = empty_set(alloc, sets)?;
+    Term::unary(alloc, Unary::Call(Call::GeneralizedIntersection), none)
 }
 
 /// The value of the binder with this number. The only error is want of memory.

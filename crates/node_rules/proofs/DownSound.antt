@@ -34,9 +34,10 @@ use Rattle.rules_base.specs.Outcomes.{of_one, is_ranged}
 use Rattle.rules_base.specs.Outcomes.{of_two as of_both}
 use Rattle.occurrences.specs.declared.place.Place.TheVariants as place
 use Rattle.occurrences.specs.Binding.{binds_layer}
-use Rattle.occurrences.specs.Outcomes.{outcome_of}
-use Rattle.node_rules.specs.Nodes.{Domains, down_unary, down_binary, down_layer}
-use Rattle.node_rules.specs.Sound.{env_of, PartsHave}
+use Rattle.occurrences.specs.Stores.{Domains}
+use Rattle.occurrences.specs.Outcomes.{env_of, outcome_of}
+use Rattle.node_rules.specs.Nodes.{down_unary, down_binary, down_layer}
+use Rattle.node_rules.specs.Sound.{PartsHave}
 use Rattle.node_rules.proofs.UpSound.{Laws, ranged, layer-unary, layer-binary, layer-truth, layer-literal, layer-reference, layer-variable, layer-infinite, layer-identity, layer-projection, layer-many, layer-over, layer-all, fits-binary, Comes, Come, not_comes, defined_comes, part_comes, connective_comes, operator_comes, call_comes, no_rule, no_two}
 
 module _ (scope : Scope) (refs : List Slot) (bound : List Value) (types : List EbType) (laws : Laws scope refs bound types) (at : Domains) (k : ℕ) where

@@ -37,7 +37,7 @@ use Rattle.eb_term.specs.Typed as typed
 use Rattle.eb_term.specs.Typed.{HasSort, of_two}
 use Rattle.eb_meaning.specs.Meaning.{Slot, Env, meaning, by_unary, by_binary, value_of, truth_in, slot_at, variable_at}
 use Rattle.eb_meaning.specs.Fitting.{slot_has_type, fits}
-use Rattle.eb_narrow.specs.Types.{type_of}
+use Rattle.term_types.specs.Types.{type_of}
 use Rattle.problem_nodes.specs.Places.{parts_of_layer, size, starts}
 use Rattle.occ_domains.specs.declared.domain.Domain.{Domain}
 use Rattle.occ_domains.specs.Bodies as bodies
@@ -59,9 +59,10 @@ use Rattle.rules_base.specs.Outcomes.{of_two as of_both}
 use Rattle.rules_base.specs.Rules.{up_one, up_two, down_one, down_two}
 use Rattle.occurrences.specs.declared.place.Place.TheVariants as place
 use Rattle.occurrences.specs.Binding.{binds_layer}
-use Rattle.occurrences.specs.Outcomes.{outcome_by, outcome_of, all_truths, whole_of}
-use Rattle.node_rules.specs.Nodes.{Domains, truth_alone, whole_values, known, known_slot, up_unary, up_binary, up_layer}
-use Rattle.node_rules.specs.Sound.{env_of, PartsHave, ReferenceHas}
+use Rattle.occurrences.specs.Stores.{Domains, truth_alone, all_truths, whole_of}
+use Rattle.occurrences.specs.Outcomes.{env_of, outcome_by, outcome_of}
+use Rattle.node_rules.specs.Nodes.{whole_values, known, known_slot, up_unary, up_binary, up_layer}
+use Rattle.node_rules.specs.Sound.{PartsHave, ReferenceHas}
 use Rattle.node_rules.proofs.Typed.{typed_ranged}
 
 -- what the law rests on

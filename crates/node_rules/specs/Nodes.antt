@@ -1,6 +1,6 @@
 -- The rules at the nodes of a problem: Up from the domains of a node's parts, Down to a part from the node's domain and that of its
 -- other part. Nodes of operators that have no rule may be all that may come of them.
-use Rattle.std.specs.Prelude.{ℕ, zero, suc, ◌+◌, ◌-◌, Bool, true, false, nat_lt, if◌then◌else◌, List, [], length, Option, Some, None, option_and_then, slice_get}
+use Rattle.std.specs.Prelude.{ℕ, zero, suc, ◌+◌, true, if◌then◌else◌, List, [], length, Option, Some, None, option_and_then, slice_get}
 use Rattle.eb_value.specs.declared.scope.Scope.{Scope}
 use Rattle.eb_value.specs.declared.types.EbType.{EbType}
 use Rattle.eb_value.specs.declared.value.Value.{Value}
@@ -23,17 +23,9 @@ use Rattle.rules_base.specs.declared.rule.UnaryRule.{UnaryRule}
 use Rattle.rules_base.specs.declared.rule.BinaryRule.{BinaryRule}
 use Rattle.rules_base.specs.Operators.{unary_rule, binary_rule}
 use Rattle.rules_base.specs.Rules.{up_one, up_two, down_one, down_two}
-use Rattle.occurrences.specs.declared.place.Place.{Place}
 use Rattle.occurrences.specs.declared.place.Place.TheVariants as place
-use Rattle.occurrences.specs.Outcomes.{whole_of}
-
--- The domain of each place, by the values of the binders around it.
-abbrev pub Domains : Type 0
-Domains = Place → List Value → Domain
-
--- a truth alone
-abbrev pub truth_alone : Bool → Domain
-truth_alone b = domain.Truths (record { can_be_true = b; can_be_false = if b then false else true; can_be_undefined = false })
+use Rattle.occurrences.specs.Stores.{Domains, truth_alone, whole_of}
+use Rattle.occurrences.specs.Targets.{referred}
 
 -- all values of the type, and Undefined
 abbrev pub whole_values : Scope → EbType → Domain
@@ -46,10 +38,6 @@ known scope ty v = if is_without_sets ty then only (Some v) else whole_values sc
 abbrev pub known_slot : Scope → EbType → Option Value → Domain
 known_slot scope ty None = whole_values scope ty
 known_slot scope ty (Some v) = known scope ty v
-
--- what a reference stands for: the choices, and then the definitions
-abbrev pub referred : ℕ → ℕ → Place
-referred choices number = if nat_lt number choices then place.Choice number else place.Definition (number - choices)
 
 abbrev pub up_unary : Option UnaryRule → Domain → Domain → Domain
 up_unary None whole part = whole

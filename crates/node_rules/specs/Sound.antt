@@ -6,17 +6,14 @@ use Rattle.eb_value.specs.declared.value.Value.{Value}
 use Rattle.eb_term.specs.declared.term.Term.{Term}
 use Rattle.eb_term.specs.declared.term.Head.TheOpen as head
 use Rattle.eb_term.specs.Terms.{layer}
-use Rattle.eb_meaning.specs.Meaning.{Slot, Env, slot_at}
+use Rattle.eb_meaning.specs.Meaning.{Slot, slot_at}
 use Rattle.problem_nodes.specs.Places.{parts, part_numbers}
 use Rattle.occ_domains.specs.Domains.{slot, has}
 use Rattle.occurrences.specs.declared.place.Place.TheVariants as place
 use Rattle.occurrences.specs.Binding.{binds}
-use Rattle.occurrences.specs.Outcomes.{outcome_of}
-use Rattle.node_rules.specs.Nodes.{Domains, referred}
-
--- the references and the values of the binders around
-abbrev pub env_of : List Slot → List Value → Env
-env_of refs bound = record { refs = refs; bound = bound }
+use Rattle.occurrences.specs.Stores.{Domains}
+use Rattle.occurrences.specs.Targets.{referred}
+use Rattle.occurrences.specs.Outcomes.{env_of, outcome_of}
 
 -- what comes of each part of the node that stands inside the same binders is in the part's domain
 abbrev pub PartsHave : Scope → Domains → List Slot → List Value → ℕ → Term → Type 0

@@ -33,7 +33,8 @@ pub fn down<V: View>(
     down_from(alloc, nodes, view, node, bound, above)
 }
 
-fn down_from<V: View>(
+/// The same, by what the node stands below.
+pub(crate) fn down_from<V: View>(
     alloc: Global,
     nodes: &Nodes,
     view: &V,

@@ -8,18 +8,18 @@ ghost use Rattle.eb_term.specs.Terms.{layer};
 ghost use Rattle.problem_nodes.specs.Places.{size};
 ghost use Rattle.rules_base.specs.Operators.{unary_rule, binary_rule};
 ghost use Rattle.occurrences.specs.declared.place.Place.TheVariants as place;
-ghost use Rattle.occurrences.specs.Outcomes.{whole_of};
+ghost use Rattle.occurrences.specs.Stores.{truth_alone as alone, whole_of};
 ghost use Rattle.node_rules.specs.Nodes as spec;
 
-use eb_narrow::type_of;
 use eb_operations::part_at;
 use eb_term::{Head, Side, Term};
 use eb_value::{EbType, Scope, Value};
 use occ_domains::{Body, Domain, Truths, is_without_sets, only, whole};
-use occurrences::{Place, View};
+use occurrences::{Place, View, referred};
 use problem_nodes::Nodes;
 use rules_base::{BinaryRule, UnaryRule, up_binary, up_unary};
 use std::alloc::{AllocError, Global};
+use term_types::type_of;
 
 /// What a node may be by what its parts may be; a reference by what it refers to; a literal and a variable is its value. All that
 /// may come of it where its operator has no rule, and of a literal or variable whose type contains sets. The only error is want of
@@ -87,25 +87,13 @@ fn up_term<V: View>(
 }
 
 fn truth_alone(truth: bool) -> Domain
-    ensures { result ≡ spec.truth_alone truth }
+    ensures { result ≡ alone truth }
 {
     Domain::Truths(Truths {
         can_be_true: truth,
         can_be_false: !truth,
         can_be_undefined: false,
     })
-}
-
-/// What a reference stands for.
-fn referred(choices: u64, number: u32) -> Place
-    ensures { result ≡ spec.referred choices number }
-{
-    let number = u64::from(number);
-    if number < choices {
-        Place::Choice(number)
-    } else {
-        Place::Definition(number - choices)
-    }
 }
 
 /// The value of a binder, or a part of it.

@@ -12,3 +12,4 @@ pub mod PartLaws
 pub mod AloneLaws
 pub mod RemovalLaws
 pub mod ExactLaws
+pub mod GivenParts

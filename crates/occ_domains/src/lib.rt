@@ -15,7 +15,7 @@ mod wholes;
 pub use body::Body;
 pub use domain::{Domain, Truths, is_empty, meet, single};
 pub use exact::only;
-pub use laws::bodies_have_their_values;
+pub use laws::{bodies_have_their_values, domains_have_their_outcomes};
 pub use removal::without;
 pub use tests::{Test, parts};
 pub use wholes::{first, is_without_sets, whole};

@@ -5,7 +5,7 @@ use Rattle.eb_term.specs.declared.term.Term.{Term}
 use Rattle.eb_term.specs.declared.term.Head.TheOpen as head
 use Rattle.eb_term.specs.Terms.{Layer, layer}
 use Rattle.narrow_terms.specs.Parts.{element_of}
-use Rattle.eb_narrow.specs.Types.{type_of}
+use Rattle.term_types.specs.Types.{type_of}
 
 -- the type of the values that a binder gives its part at this place
 abbrev pub binds_layer : Layer → ℕ → Option EbType

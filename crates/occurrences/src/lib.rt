@@ -1,8 +1,13 @@
-//! Where formulas of a problem occur, what gives each a domain, and what comes of a term.
+//! Where formulas of a problem occur, what gives each a domain, what comes of each, and which a rule narrows.
 //!
-//! `specs/Outcomes` says what comes of a term, `specs/Binding` which parts of a node stand inside one binder more.
+//! `specs/Occurrences` says which occurrences a problem has, `specs/Stores` what each may be before anything is known,
+//! `specs/Outcomes` what comes of each, `specs/Targets` what a rule narrows, and `specs/Typed` which problems are typed.
 #![tactic(auto)]
 
+mod binders;
 mod place;
+mod targets;
 
-pub use place::{Place, View};
+pub use binders::{binder_types, nodes_stand_inside_one_row_of_binders};
+pub use place::{Occurrence, Place, Rule, View};
+pub use targets::{referred, target};

@@ -7,7 +7,8 @@ use Rattle.eb_term.specs.declared.term.Term.{Term}
 use Rattle.eb_term.specs.Nodes.{subterms, nodes_of}
 use Rattle.problem_nodes.specs.declared.nodes.Above.TheVariants as above
 use Rattle.problem_nodes.specs.Places.{size, starts, IsEnd}
-use Rattle.problem_nodes.specs.steps.Rows.{rows, aboves_of, ends_from}
+use Rattle.problem_nodes.specs.Aboves.{rows, aboves_of}
+use Rattle.problem_nodes.specs.steps.Lists.{ends_from}
 use Rattle.problem_nodes.proofs.PartLaws.{rows-length}
 use Rattle.problem_nodes.proofs.AboveLaws.{end_is}
 

@@ -7,7 +7,7 @@ use Rattle.eb_term.specs.Nodes.{subterms, nodes_of}
 use Rattle.problem_nodes.specs.declared.nodes.Above.{Above}
 use Rattle.problem_nodes.specs.declared.nodes.Above.TheVariants as above
 use Rattle.problem_nodes.specs.Places.{parts, size, starts, part_numbers, StandsBelow}
-use Rattle.problem_nodes.specs.steps.Rows.{row, rows, aboves_of}
+use Rattle.problem_nodes.specs.Aboves.{row, rows, aboves_of}
 use Rattle.problem_nodes.proofs.PartLaws.{row_is, row-length, rows-length}
 use Rattle.problem_nodes.proofs.PlaceLaws.{occurs}
 use Rattle.problem_nodes.proofs.Stretches.{stands_get, get-first, get-second}
@@ -52,7 +52,7 @@ part_row p k number place t e f =
     ∙ ap (λ n. Some (above.Part number n)) (let q : 0 + place ≡ place = omega arith in q)
 
 -- what a node stands below is what its row says
-below_row : (p : Problem) (k : ℕ) (a : Above) → StandsBelow p k a → slice_get (aboves_of p) k ≡ Some a
+pub below_row : (p : Problem) (k : ℕ) (a : Above) → StandsBelow p k a → slice_get (aboves_of p) k ≡ Some a
 below_row p k (above.Definition place) h =
     let r = begins above.Definition 0 0 p.definitions place k h in
     ap (slice_get (aboves_of p)) (let q : k ≡ r.after = omega (arith, r.at) in q)

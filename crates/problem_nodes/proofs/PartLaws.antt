@@ -11,7 +11,7 @@ use Rattle.eb_term.specs.Nodes.{Listed, listed_step, subterms}
 use Rattle.problem_nodes.specs.declared.nodes.Above.{Above}
 use Rattle.problem_nodes.specs.declared.nodes.Above.TheVariants as above
 use Rattle.problem_nodes.specs.Places.{parts, parts_of_layer, size}
-use Rattle.problem_nodes.specs.steps.Rows.{Row, row, rows, rows_of_parts, joined}
+use Rattle.problem_nodes.specs.Aboves.{Row, row, rows, rows_of_parts, joined}
 
 -- ---- induction by parts
 

@@ -7,7 +7,7 @@ use Rattle.eb_term.specs.Nodes.{subterms, nodes_of}
 use Rattle.problem_nodes.specs.declared.nodes.Above.{Above}
 use Rattle.problem_nodes.specs.declared.nodes.Above.TheVariants as above
 use Rattle.problem_nodes.specs.Places.{parts, size, starts, part_numbers, definition_roots, fact_roots}
-use Rattle.problem_nodes.specs.steps.Rows.{row, rows, aboves_of}
+use Rattle.problem_nodes.specs.Aboves.{row, rows, aboves_of}
 use Rattle.problem_nodes.proofs.PartLaws.{ind_parts, subterms_are, row_is, row-length, rows-length}
 use Rattle.problem_nodes.proofs.Stretches.{Stands, stands_whole, stands_by, stands_first, stands_left, stands_right, stands_get, in_first, in_second, is_in}
 

@@ -17,7 +17,8 @@ use Rattle.problem_nodes.specs.declared.nodes.Above.{Above}
 use Rattle.problem_nodes.specs.declared.nodes.Above.TheVariants as above
 use Rattle.problem_nodes.specs.declared.lists.Made.TheVariants as made
 use Rattle.problem_nodes.specs.Places.{parts, size, starts, definition_roots, fact_roots}
-use Rattle.problem_nodes.specs.steps.Rows.{row, rows, ends_from}
+use Rattle.problem_nodes.specs.Aboves.{row, rows}
+use Rattle.problem_nodes.specs.steps.Lists.{ends_from}
 use Rattle.problem_nodes.specs.steps.Lists.{Listed, extended, begun, made_at, lists_of}
 use Rattle.problem_nodes.proofs.PartLaws.{subterms_are, row_is}
 use Rattle.problem_nodes.proofs.LengthLaws.{ends-length}

@@ -4,7 +4,7 @@ ghost use Rattle.std.specs.List.{flat_map};
 ghost use Rattle.eb_term.specs.Nodes.{subterms};
 ghost use Rattle.problem_nodes.specs.declared.lists.Made.TheVariants as made;
 ghost use Rattle.problem_nodes.specs.Places.{parts, starts};
-ghost use Rattle.problem_nodes.specs.steps.Rows.{row, rows};
+ghost use Rattle.problem_nodes.specs.Aboves.{row, rows};
 ghost use Rattle.problem_nodes.specs.steps.Lists as spec;
 
 use crate::nodes::Above;

@@ -1,6 +1,6 @@
 -- How many nodes narrow form has, by the numbers of the parts. Each number is a sum: the sum itself, or the sum as far as a
 -- machine's number goes.
-use Rattle.std.specs.Prelude.{ℕ, ◌+◌, ◌-◌, ◌*◌, ◌^◌, min, Bool, true, false, ◌&&◌, ◌||◌, if◌then◌else◌, List, [], ◌∷◌, map, length}
+use Rattle.std.specs.Prelude.{ℕ, ◌-◌, ◌*◌, ◌^◌, min, Bool, true, false, ◌&&◌, ◌||◌, if◌then◌else◌, List, [], ◌∷◌, map, length}
 use Rattle.std.specs.List.{sum}
 use Rattle.eb_syntax.specs.declared.ast.Prefix.{Prefix}
 use Rattle.eb_syntax.specs.declared.ast.Prefix.TheVariants as prefix

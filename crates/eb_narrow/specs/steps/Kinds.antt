@@ -1,5 +1,5 @@
 -- The kinds of operators in the steps of the code, and narrow form by them.
-use Rattle.std.specs.Prelude.{ℕ, Bool, true, false, ◌&&◌, ◌||◌, if◌then◌else◌, [], ◌∷◌, Option, Some, None, pos}
+use Rattle.std.specs.Prelude.{ℕ, Bool, true, false, if◌then◌else◌, [], ◌∷◌, Option, None, pos}
 use Rattle.eb_syntax.specs.declared.ast.Prefix.TheVariants as prefix
 use Rattle.eb_syntax.specs.declared.ast.Call.TheVariants as call
 use Rattle.eb_syntax.specs.declared.ast.Operator.{Operator}

@@ -1,7 +1,5 @@
 -- Narrow form in the steps of the code.
 use Rattle.std.specs.Prelude.{ℕ, ◌+◌, Bool, true, false, List, [], ◌∷◌, map, Option, Some, None, unwrap_or}
-use Rattle.eb_syntax.specs.declared.ast.Operator.{Operator}
-use Rattle.eb_syntax.specs.declared.ast.Operator.TheVariants as op
 use Rattle.eb_value.specs.declared.types.EbType.{EbType}
 use Rattle.eb_value.specs.Types.{boolean}
 use Rattle.eb_term.specs.declared.operators.Binder.{Binder}
@@ -13,12 +11,11 @@ use Rattle.eb_term.specs.declared.operators.Infinite.TheVariants as infinite
 use Rattle.eb_term.specs.declared.term.Head.TheOpen as head
 use Rattle.eb_term.specs.Terms as term
 use Rattle.eb_term.specs.Terms.{Layer, layer}
-use Rattle.eb_meaning.specs.Meaning.{is_total, is_surjective}
 use Rattle.narrow_terms.specs.Shifting.{shift}
-use Rattle.narrow_terms.specs.Building.{negation, both, is_defined, domain, range, whole}
+use Rattle.narrow_terms.specs.Building.{negation, both, is_defined, domain, range, whole, no_value}
 use Rattle.eb_narrow.specs.declared.kinds.UnaryKind.{UnaryKind}
 use Rattle.eb_narrow.specs.declared.kinds.UnaryKind.TheVariants as kind
-use Rattle.eb_narrow.specs.Types.{type_of}
+use Rattle.term_types.specs.Types.{type_of}
 use Rattle.eb_narrow.specs.Narrow.{Narrowed}
 
 -- what has been joined, and one more
@@ -62,6 +59,10 @@ is_integers_at _ = false
 -- INT
 abbrev pub is_integers : Term → Bool
 is_integers t = is_integers_at (layer t)
+
+-- what stands for a form
+abbrev pub no_value_of : Term → Term
+no_value_of t = no_value (unwrap_or (type_of t) boolean)
 
 -- the type of the first of the sets, BOOL where there is none
 abbrev pub first_type : List Term → EbType

@@ -1,5 +1,5 @@
 -- The lists that are made while the nodes are walked.
-use Rattle.std.specs.Prelude.{ℕ, List, [], ◌∷◌, ◌++◌, length}
+use Rattle.std.specs.Prelude.{ℕ, suc, ◌+◌, List, [], ◌∷◌, ◌++◌, length}
 use Rattle.eb_term.specs.declared.problem.Problem.{Problem}
 use Rattle.eb_term.specs.declared.term.Term.{Term}
 use Rattle.eb_term.specs.Nodes.{nodes_of}
@@ -7,13 +7,19 @@ use Rattle.problem_nodes.specs.declared.nodes.Above.{Above}
 use Rattle.problem_nodes.specs.declared.nodes.Above.TheVariants as above
 use Rattle.problem_nodes.specs.declared.lists.Made.{Made}
 use Rattle.problem_nodes.specs.declared.lists.Made.TheVariants as made
-use Rattle.problem_nodes.specs.steps.Rows.{aboves_of, ends_from}
+use Rattle.problem_nodes.specs.Places.{size}
+use Rattle.problem_nodes.specs.Aboves.{aboves_of}
 
 -- The nodes so far, what each stands below, and where its nodes end.
 pub record Listed : Type 0 where
   pub terms : List Term
   pub aboves : List Above
   pub ends : List ℕ
+
+-- where the nodes of nodes end, of which the first has this number
+abbrev pub ends_from : ℕ → List Term → List ℕ
+ends_from k [] = []
+ends_from k (t ∷ ts) = (k + size t) ∷ ends_from (suc k) ts
 
 -- the lists with more nodes, all of whose own nodes are among them
 abbrev pub extended : Listed → List Term → List Above → Listed

@@ -1,6 +1,5 @@
-use Rattle.std.proofs.Common.{◌≡◌, ◌∙◌, sym, ap, arith, rules}
+use Rattle.std.proofs.Common.{◌≡◌, sym, ap, rules}
 use Rattle.eb_term.specs.declared.operators.Many.TheVariants as many
-use Rattle.eb_narrow.specs.steps.Counting as count
 use Rattle.eb_narrow.specs.steps.Counting.{cap, capped, by_many, each_term}
 use Rattle.eb_narrow.proofs.Capped.{of_zero, term_next, part_next, many_head}
 use Rattle.eb_narrow.proofs.counts.+counting.Goals as goal

@@ -1,6 +1,4 @@
-use Rattle.std.proofs.Common.{◌≡◌, ◌∙◌, sym, ap, length}
-use Rattle.eb_term.specs.Nodes.{subterms}
-use Rattle.eb_narrow.specs.Narrow.{narrow}
+use Rattle.std.proofs.Common.{◌∙◌, sym, ap}
 use Rattle.eb_narrow.specs.steps.Counting.{cap, nodes}
 use Rattle.eb_narrow.proofs.Capped.{is_capped}
 use Rattle.eb_narrow.proofs.Counted.{is_counted}

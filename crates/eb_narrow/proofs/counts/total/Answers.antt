@@ -1,5 +1,5 @@
-use Rattle.std.proofs.Common.{◌≡◌, ◌∙◌, sym, ap, take, arith, rules, take_all}
-use Rattle.eb_narrow.specs.steps.Counting.{cap, capped}
+use Rattle.std.proofs.Common.{sym}
+use Rattle.eb_narrow.specs.steps.Counting.{cap}
 use Rattle.eb_narrow.proofs.Capped.{of_zero, sum_next}
 use Rattle.eb_narrow.proofs.counts.total.Goals as goal
 

@@ -9,7 +9,8 @@ use Rattle.narrow_terms.specs.Building.{operation, is_defined}
 use Rattle.eb_narrow.specs.declared.kinds.BinaryKind.TheVariants as of
 use Rattle.eb_narrow.specs.Narrow as narrow
 use Rattle.eb_narrow.specs.Narrow.{narrowed}
-use Rattle.eb_narrow.specs.steps.Kinds.{unary_kind, as_unary, as_binary, asked, said, one_part, two_parts, beyond}
+use Rattle.term_types.specs.Types.{type_of}
+use Rattle.eb_narrow.specs.steps.Kinds.{unary_kind, as_unary, asked, said, one_part, two_parts, beyond}
 use Rattle.eb_narrow.specs.steps.Narrowing as step
 use Rattle.eb_narrow.proofs.ByKinds.{kind_is}
 use Rattle.eb_narrow.proofs.NarrowAt.{bound_over, bound_all}
@@ -123,7 +124,7 @@ pub part_has-returns : goal.part_has-returns
 part_has-returns t c = subst (λ z. IfOk c.has.result (λ o. o ≡ z)) (ap (λ e. (narrowed c.args.form.now).has c.args.depth c.args.by e) c.in_ok-e.ensures) c.has.ensures
 
 pub term_at-returns-in-Infinite : goal.term_at-returns-in-Infinite
-term_at-returns-in-Infinite t c = subst (λ z. IfOk c.no_value.result (λ o. o ≡ z)) (infinite_term c.args.term.now c.in-Infinite.field-0 c.args.depth c.in-Infinite.is) c.no_value.ensures
+term_at-returns-in-Infinite t c = subst (λ z. IfOk c.no_value_of.result (λ o. o ≡ z)) (infinite_term c.args.term.now c.in-Infinite.field-0 c.args.depth c.in-Infinite.is) c.no_value_of.ensures
 
 pub term_at-returns-in-Identity : goal.term_at-returns-in-Identity
 term_at-returns-in-Identity t c = subst (λ z. IfOk c.identity.result (λ o. o ≡ z)) (identity_term c.args.term.now c.in-Identity.ty c.args.depth c.in-Identity.is) c.identity.ensures
@@ -132,7 +133,7 @@ pub term_at-returns-in-Projection : goal.term_at-returns-in-Projection
 term_at-returns-in-Projection t c = subst (λ z. IfOk c.projection.result (λ o. o ≡ z)) (projection_term c.args.term.now c.in-Projection.side c.in-Projection.first c.in-Projection.second c.args.depth c.in-Projection.is) c.projection.ensures
 
 pub term_at-returns-in-Unary : goal.term_at-returns-in-Unary
-term_at-returns-in-Unary t c = subst (λ z. IfOk c.unary_at.result (λ o. o ≡ z)) (ap (λ a. (as_unary (unary_kind c.in-Unary.operator) c.in-Unary.operator None (narrowed a)).term c.args.depth) c.get.ensures ∙ unary_term c.args.term.now c.in-Unary.part c.in-Unary.operator c.args.depth c.in-Unary.is) c.unary_at.ensures
+term_at-returns-in-Unary t c = subst (λ z. IfOk c.unary_at.result (λ o. o ≡ z)) (ap (λ a. (as_unary (unary_kind c.in-Unary.operator) c.in-Unary.operator (type_of c.args.term.now) (narrowed a)).term c.args.depth) c.get.ensures ∙ unary_term c.args.term.now c.in-Unary.part c.in-Unary.operator c.args.depth c.in-Unary.is) c.unary_at.ensures
 
 pub term_at-returns-in-Many : goal.term_at-returns-in-Many
 term_at-returns-in-Many t c = subst (λ z. IfOk c.many_at.result (λ o. o ≡ z)) (ap (λ ts. (narrow.by_many c.in-Many.many None (map narrowed ts)).term c.args.depth) c.as_slice.ensures ∙ many_term c.args.term.now c.in-Many.many c.in-Many.parts c.args.depth c.in-Many.is) c.many_at.ensures
@@ -147,16 +148,16 @@ pub term_at-returns-in_default : goal.term_at-returns-in_default
 term_at-returns-in_default t c = subst (λ z. IfOk c.copied.result (λ o. o ≡ z)) (leaf_term c.args.term.now c.args.depth c.in_default.not-Infinite c.in_default.not-Identity c.in_default.not-Projection c.in_default.not-Unary c.in_default.not-Binary c.in_default.not-Many c.in_default.not-Over c.in_default.not-All) c.copied.ensures
 
 pub unary_at-returns-in-PowerSet : goal.unary_at-returns-in-PowerSet
-unary_at-returns-in-PowerSet t c = subst (λ z. IfOk c.no_value.result (λ o. o ≡ z)) (ap (λ k. (as_unary k c.args.operator None (narrowed c.args.part.now)).term c.args.depth) (sym c.in-PowerSet.is ∙ c.unary_kind.ensures)) c.no_value.ensures
+unary_at-returns-in-PowerSet t c = subst (λ z. IfOk c.no_value_of.result (λ o. o ≡ z)) (ap (λ k. (as_unary k c.args.operator (type_of c.args.whole.now) (narrowed c.args.part.now)).term c.args.depth) (sym c.in-PowerSet.is ∙ c.unary_kind.ensures)) c.no_value_of.ensures
 
 pub unary_at-returns-in-NonemptyPowerSet : goal.unary_at-returns-in-NonemptyPowerSet
-unary_at-returns-in-NonemptyPowerSet t c = subst (λ z. IfOk c.no_value-in-NonemptyPowerSet.result (λ o. o ≡ z)) (ap (λ k. (as_unary k c.args.operator None (narrowed c.args.part.now)).term c.args.depth) (sym c.in-NonemptyPowerSet.is ∙ c.unary_kind.ensures)) c.no_value-in-NonemptyPowerSet.ensures
+unary_at-returns-in-NonemptyPowerSet t c = subst (λ z. IfOk c.no_value_of-in-NonemptyPowerSet.result (λ o. o ≡ z)) (ap (λ k. (as_unary k c.args.operator (type_of c.args.whole.now) (narrowed c.args.part.now)).term c.args.depth) (sym c.in-NonemptyPowerSet.is ∙ c.unary_kind.ensures)) c.no_value_of-in-NonemptyPowerSet.ensures
 
 pub unary_at-returns-in_ok-ty-in-UnionOfMembers : goal.unary_at-returns-in_ok-ty-in-UnionOfMembers
-unary_at-returns-in_ok-ty-in-UnionOfMembers t c = subst (λ z. IfOk c.union_of_members.result (λ o. o ≡ z)) (union_is c.args.part.now c.in_ok-sets-in-UnionOfMembers.sets c.in_ok-ty-in-UnionOfMembers.ty c.args.depth c.in_ok-sets-in-UnionOfMembers.ensures c.in_ok-ty-in-UnionOfMembers.ensures ∙ ap (λ k. (as_unary k c.args.operator None (narrowed c.args.part.now)).term c.args.depth) (sym c.in-UnionOfMembers.is ∙ c.unary_kind.ensures)) c.union_of_members.ensures
+unary_at-returns-in_ok-ty-in-UnionOfMembers t c = subst (λ z. IfOk c.union_of_members.result (λ o. o ≡ z)) (union_is c.args.part.now c.in_ok-sets-in-UnionOfMembers.sets c.in_ok-ty-in-UnionOfMembers.ty c.args.depth c.in_ok-sets-in-UnionOfMembers.ensures c.in_ok-ty-in-UnionOfMembers.ensures ∙ ap (λ k. (as_unary k c.args.operator (type_of c.args.whole.now) (narrowed c.args.part.now)).term c.args.depth) (sym c.in-UnionOfMembers.is ∙ c.unary_kind.ensures)) c.union_of_members.ensures
 
 pub unary_at-returns-in_ok-a-in-Other : goal.unary_at-returns-in_ok-a-in-Other
-unary_at-returns-in_ok-a-in-Other t c = subst (λ z. IfOk c.one_part.result (λ o. o ≡ z)) (ap (one_part c.args.operator) c.in_ok-a-in-Other.ensures ∙ ap (λ k. (as_unary k c.args.operator None (narrowed c.args.part.now)).term c.args.depth) (sym c.in-Other.is ∙ c.unary_kind.ensures)) c.one_part.ensures
+unary_at-returns-in_ok-a-in-Other t c = subst (λ z. IfOk c.one_part.result (λ o. o ≡ z)) (ap (one_part c.args.operator) c.in_ok-a-in-Other.ensures ∙ ap (λ k. (as_unary k c.args.operator (type_of c.args.whole.now) (narrowed c.args.part.now)).term c.args.depth) (sym c.in-Other.is ∙ c.unary_kind.ensures)) c.one_part.ensures
 
 pub beyond-returns-in_ok-holds-in-Membership : goal.beyond-returns-in_ok-holds-in-Membership
 beyond-returns-in_ok-holds-in-Membership t c = subst (λ z. IfOk c.said.result (λ o. o ≡ z)) (ap (said c.in-Membership.is_negated) c.in_ok-holds-in-Membership.ensures ∙ ap (λ k. beyond k c.args.operator c.args.left (narrowed c.args.right.now) c.args.depth) (sym c.in-Membership.is)) c.said.ensures
@@ -165,7 +166,7 @@ pub beyond-returns-in_ok-right-in_default : goal.beyond-returns-in_ok-right-in_d
 beyond-returns-in_ok-right-in_default t c = subst (λ z. IfOk c.two_parts.result (λ o. o ≡ z)) (ap (two_parts c.args.operator c.args.left) c.in_ok-right-in_default.ensures ∙ other_is c.args.kind c.args.operator c.args.left (narrowed c.args.right.now) c.args.depth c.in_default.not-Membership) c.two_parts.ensures
 
 pub term_at-returns-then-is_form_kind : goal.term_at-returns-then-is_form_kind
-term_at-returns-then-is_form_kind t c = subst (λ z. IfOk c.no_value-then-is_form_kind.result (λ o. o ≡ z)) (form_term c.args.term.now c.in-Binary.left c.in-Binary.right c.in-Binary.operator c.kind_at-kind.result c.args.depth c.in-Binary.is (kind_is c.in-Binary.operator c.in-Binary.left c.in-Binary.right c.get-in-Binary.result.now c.get-in-Binary-2.result.now c.kind_at-kind.result c.kind_at-kind.result c.get-in-Binary.ensures c.get-in-Binary-2.ensures c.kind_at-kind.ensures refl) (sym c.is_form_kind.ensures ∙ c.if-is_form_kind.true)) c.no_value-then-is_form_kind.ensures
+term_at-returns-then-is_form_kind t c = subst (λ z. IfOk c.no_value_of-then-is_form_kind.result (λ o. o ≡ z)) (form_term c.args.term.now c.in-Binary.left c.in-Binary.right c.in-Binary.operator c.kind_at-kind.result c.args.depth c.in-Binary.is (kind_is c.in-Binary.operator c.in-Binary.left c.in-Binary.right c.get-in-Binary.result.now c.get-in-Binary-2.result.now c.kind_at-kind.result c.kind_at-kind.result c.get-in-Binary.ensures c.get-in-Binary-2.ensures c.kind_at-kind.ensures refl) (sym c.is_form_kind.ensures ∙ c.if-is_form_kind.true)) c.no_value_of-then-is_form_kind.ensures
 
 pub term_at-returns-in_ok-left-in-Binary : goal.term_at-returns-in_ok-left-in-Binary
 term_at-returns-in_ok-left-in-Binary t c =

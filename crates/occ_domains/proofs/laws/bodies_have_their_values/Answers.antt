@@ -3,7 +3,7 @@ use Rattle.occ_domains.proofs.MeetLaws.{meet_has}
 use Rattle.occ_domains.proofs.NormalLaws.{meet_normal, integers_normal, pairs_normal, normal_parts}
 use Rattle.occ_domains.proofs.RemovalLaws.{without_has, without_normal}
 use Rattle.occ_domains.proofs.ExactLaws.{only_has}
-use Rattle.occ_domains.proofs.WholeLaws.{whole_each}
+use Rattle.occ_domains.proofs.WholeLaws.{whole_each, first_each}
 use Rattle.occ_domains.proofs.AloneLaws.{only_value}
 use Rattle.occ_domains.proofs.laws.bodies_have_their_values.Goals as goal
 
@@ -48,3 +48,8 @@ returns-clause-only c = λ s. only_has c.order_is_total.ensures.reflexive s
 
 pub returns-clause-whole : goal.returns-clause-whole
 returns-clause-whole c = λ scope ty v h. whole_each c.order_is_total.ensures.reflexive c.values_are_complete.ensures scope ty v h
+
+pub returns-clause-first : goal.returns-clause-first
+returns-clause-first c = λ scope low high ty v m.
+    let k = (c.values_are_complete.ensures scope low high ty v).0 m in
+    first_each c.order_is_total.ensures.reflexive c.values_are_complete.ensures scope ty v k.0 k.1

@@ -4,7 +4,7 @@ use Rattle.std.specs.List.{flat_map}
 use Rattle.eb_term.specs.Nodes.{subterms}
 use Rattle.problem_nodes.specs.declared.lists.Made.TheVariants as made
 use Rattle.problem_nodes.specs.Places.{parts}
-use Rattle.problem_nodes.specs.steps.Rows.{rows}
+use Rattle.problem_nodes.specs.Aboves.{rows}
 use Rattle.problem_nodes.specs.steps.Lists.{extended, made_at}
 use Rattle.problem_nodes.proofs.PushLaws.{the_record, closed, binary_parts, over_parts, two_parts, next_row, taken_more, taken_length}
 use Rattle.problem_nodes.proofs.lists.+walking.Goals as goal

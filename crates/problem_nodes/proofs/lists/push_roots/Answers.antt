@@ -1,5 +1,5 @@
 use Rattle.std.proofs.Common.{◌∙◌, ◌+◌, ◌<◌, [], ◌∷◌, ◌++◌, ap, length, take, arith}
-use Rattle.problem_nodes.specs.steps.Rows.{rows}
+use Rattle.problem_nodes.specs.Aboves.{rows}
 use Rattle.problem_nodes.specs.steps.Lists.{made_at}
 use Rattle.problem_nodes.proofs.PushLaws.{next_row, next_root, taken_more, taken_length}
 use Rattle.problem_nodes.proofs.lists.push_roots.Goals as goal

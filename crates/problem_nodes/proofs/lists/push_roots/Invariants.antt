@@ -2,7 +2,7 @@ use Rattle.std.proofs.Common.{◌≡◌, length, take}
 use Rattle.std.specs.List.{flat_map}
 use Rattle.eb_term.specs.Nodes.{subterms}
 use Rattle.problem_nodes.specs.Places.{starts}
-use Rattle.problem_nodes.specs.steps.Rows.{rows}
+use Rattle.problem_nodes.specs.Aboves.{rows}
 use Rattle.problem_nodes.specs.steps.Lists.{extended, made_at}
 use Rattle.problem_nodes.proofs.lists.push_roots.Given as goal
 

@@ -1,6 +1,6 @@
 use Rattle.std.proofs.Common.{◌∙◌, ap, sym, length, slice_get}
 use Rattle.eb_term.specs.Nodes.{nodes_of}
-use Rattle.problem_nodes.specs.steps.Rows.{aboves_of}
+use Rattle.problem_nodes.specs.Aboves.{aboves_of}
 use Rattle.problem_nodes.proofs.LengthLaws.{aboves-length, within}
 use Rattle.problem_nodes.proofs.AboveLaws.{row_stands}
 use Rattle.problem_nodes.proofs.nodes.Nodes.above.Goals as goal

@@ -1,6 +1,6 @@
 use Rattle.std.proofs.Common.{◌∙◌, ap, sym, length, slice_get}
 use Rattle.eb_term.specs.Nodes.{nodes_of}
-use Rattle.problem_nodes.specs.steps.Rows.{ends_from}
+use Rattle.problem_nodes.specs.steps.Lists.{ends_from}
 use Rattle.problem_nodes.proofs.LengthLaws.{ends-length, within, ends_there}
 use Rattle.problem_nodes.proofs.nodes.Nodes.end.Goals as goal
 

@@ -1,6 +1,6 @@
 use Rattle.std.proofs.Common.{length}
 use Rattle.problem_nodes.specs.declared.lists.Made.TheVariants as made
-use Rattle.problem_nodes.specs.steps.Rows.{rows}
+use Rattle.problem_nodes.specs.Aboves.{rows}
 use Rattle.problem_nodes.specs.steps.Lists.{made_at}
 use Rattle.problem_nodes.proofs.PushLaws.{lists_are, definition_roots_are, fact_roots_are}
 use Rattle.problem_nodes.proofs.nodes.Nodes.new.Goals as goal

@@ -1,0 +1,5 @@
+pub mod BodyInduction
+pub mod SameLaws
+pub mod RoomLaws
+pub mod DomainRoom
+pub mod PartRoom

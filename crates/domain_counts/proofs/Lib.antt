@@ -1,0 +1,10 @@
+pub mod BodyCounts
+pub mod IntervalCounts
+pub mod BuiltCounts
+pub mod MeetCounts
+pub mod FilledCounts
+pub mod PartCounts
+pub mod PartsWithoutSets
+pub mod GivenParts
+pub mod TypeInduction
+pub mod WholeCounts

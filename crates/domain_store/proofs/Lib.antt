@@ -1,0 +1,11 @@
+pub mod EachLaws
+pub mod FirstLaws
+pub mod ReadLaws
+pub mod SlotLaws
+pub mod KeyLaws
+pub mod CellLaws
+pub mod StoreLaws
+pub mod BoxLaws
+pub mod RowLaws
+pub mod PlaceLaws
+pub mod NormalLaws

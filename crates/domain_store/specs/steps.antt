@@ -1,0 +1,4 @@
+-- Means of proof, which only private functions and fields cite.
+pub mod Firsts
+pub mod Kept
+pub mod Rows

@@ -1,0 +1,15 @@
+mod Judging
+mod Built
+mod Narrowing
+mod SetForms
+mod Operators
+mod Binders
+mod NarrowHeads
+mod NarrowTerms
+mod Shifted
+mod Instances
+mod TypingLaws
+mod Keeping
+mod KeepingParts
+mod ReferenceLaws
+mod TermInduction

@@ -1,0 +1,2 @@
+pub mod ClosingLines
+pub mod Soundness

@@ -1,0 +1,3 @@
+-- What the contracts of the public functions lead to.
+pub mod Fresh
+pub mod Trees

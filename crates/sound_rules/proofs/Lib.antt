@@ -1,0 +1,13 @@
+pub mod Hypotheses
+pub mod Parts
+pub mod TypedParts
+pub mod Slots
+pub mod TypedNodes
+pub mod References
+pub mod Coming
+pub mod Stores
+pub mod Binders
+pub mod Given
+pub mod First
+pub mod Narrowed
+pub mod Splits

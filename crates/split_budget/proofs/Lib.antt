@@ -1,0 +1,4 @@
+pub mod Products
+pub mod ChoiceDomains
+pub mod Budget
+pub mod FirstVolume

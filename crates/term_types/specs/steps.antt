@@ -1,0 +1,2 @@
+-- Means of proof: no public clause names what stands here.
+pub mod Letters

@@ -1,0 +1,14 @@
+pub mod NumberLaws
+pub mod TestForms
+pub mod TestLaws
+pub mod OccursLaws
+pub mod FormParts
+pub mod PlaceLaws
+pub mod AskedLaws
+pub mod WrittenLaws
+pub mod ReadingLaws
+pub mod Apart
+pub mod SplitApart
+pub mod LineForms
+pub mod OneReading
+pub mod BackLaws

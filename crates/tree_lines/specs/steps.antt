@@ -1,0 +1,4 @@
+-- Means of proof, which only private functions cite.
+pub mod Reading
+pub mod Seen
+pub mod Fitting
