@@ -7,5 +7,6 @@ mod Formulas
 mod Lowering
 mod TypedTerms
 mod FittingTerms
+mod References
 mod ModelFormulas
 mod TermLaws

@@ -1,0 +1,4 @@
+mod Hypotheses
+mod Carriers
+mod Known
+mod Facts
