@@ -11,3 +11,4 @@ pub mod Given
 pub mod First
 pub mod Narrowed
 pub mod Splits
+pub mod Targets

@@ -13,7 +13,7 @@ ghost use Rattle.occurrences.specs.declared.place.Rule.{Rule};
 ghost use Rattle.occurrences.specs.Occurrences.{Occurs};
 ghost use Rattle.occurrences.specs.Outcomes.{ComesAt, HaveWhatComes};
 ghost use Rattle.occurrences.specs.Stores.{Domains, first_domains, with_domain};
-ghost use Rattle.occurrences.specs.Targets.{target};
+ghost use Rattle.occurrences.specs.Targets.{target, target_bound};
 ghost use Rattle.occurrences.specs.Typed.{IsTyped};
 ghost use Rattle.node_rules.specs.Narrowing.{narrowed};
 
@@ -25,7 +25,7 @@ use problem_nodes::nodes_have_their_places;
 use term_types::types_are_those_of_the_typing;
 
 /// Where what comes of each occurrence is in its domain, it still is after a rule has narrowed one; and so it is at first, for each
-/// solution. Something comes of each occurrence, and one thing alone; so of the two parts of a domain by a test, one has it. The
+/// solution. What a rule narrows is an occurrence. Something comes of each occurrence, and one thing alone; so of the two parts of a domain by a test, one has it. The
 /// problem is typed, and its scope's integers lie within -2^62..2^62.
 pub fn rules_keep_what_comes()
     ensures first { (scope : Scope) → negsuc 4611686018427387903 ≤ℤ scope.lo → scope.hi ≤ℤ pos 4611686018427387904
@@ -35,6 +35,9 @@ pub fn rules_keep_what_comes()
         → (at : Domains) → HaveWhatComes scope p values at
         → (rule : Rule) (from : Place) (bound : List Value) (to : Place) → Occurs scope p from bound → target p rule from ≡ Some to
         → HaveWhatComes scope p values (narrowed scope p at rule from bound to) }
+    ensures targets { (scope : Scope) → negsuc 4611686018427387903 ≤ℤ scope.lo → scope.hi ≤ℤ pos 4611686018427387904
+        → (p : Problem) → IsTyped scope p → (rule : Rule) (from : Place) (bound : List Value) (to : Place) → Occurs scope p from bound
+        → target p rule from ≡ Some to → Occurs scope p to (target_bound rule bound) }
     ensures there { (scope : Scope) → negsuc 4611686018427387903 ≤ℤ scope.lo → scope.hi ≤ℤ pos 4611686018427387904
         → (p : Problem) → IsTyped scope p → (values : List Value) → IsValuation scope p.choices values
         → (place : Place) (bound : List Value) → Occurs scope p place bound → (o : Outcome) × ComesAt scope p values place bound o }

@@ -5,6 +5,7 @@ use Rattle.sound_rules.proofs.Hypotheses.{TermLaws, NodeLaws, RuleLaws}
 use Rattle.sound_rules.proofs.First.{first_has}
 use Rattle.sound_rules.proofs.Narrowed.{narrowed_has}
 use Rattle.sound_rules.proofs.Splits.{once, something_comes, split_has}
+use Rattle.sound_rules.proofs.Targets.{target_occurs}
 use Rattle.sound_rules.proofs.laws.rules_keep_what_comes.Goals as goal
 
 pub returns : goal.returns
@@ -38,6 +39,7 @@ returns c =
       first = λ scope low high p typed values solution. first_has scope (terms scope low high) (rules scope low high) p (nodes p) typed values solution;
       rules = λ scope low high p typed values valuation at have rule from bound to occurs is.
           narrowed_has scope (terms scope low high) (rules scope low high) p (nodes p) typed values valuation at have rule from bound to occurs is;
+      targets = λ scope low high p typed rule from bound to occurs is. target_occurs scope (terms scope low high) p (nodes p) typed rule from bound to occurs is;
       there = λ scope low high p typed values valuation place bound occurs. something_comes scope (terms scope low high) p (nodes p) typed values valuation place bound occurs;
       once = once;
       split = λ scope low high p typed values valuation at have place bound occurs t two is.
